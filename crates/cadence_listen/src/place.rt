@@ -1,10 +1,12 @@
 //! Reads a line, or finds the place from which it can't be read.
-ghost use Rattle.std.specs.Prelude.{IfOk, IsTrue};
+ghost use Rattle.std.specs.Prelude.{◌≤◌, IfOk, IsTrue, length};
 ghost use Rattle.cadence_listen.specs.Places.{CanBegin, IsPlace, ReadsLine};
 
 use cadence_read::{ReadFault, read_line};
 use cadence_text::line::OwnedMetric;
+use cadence_value::bytes::split_once;
 use std::alloc::{AllocError, Allocator};
+use std::str;
 
 /// What reading a line gave.
 #[derive(Debug, Drop)]
@@ -16,22 +18,47 @@ pub enum Reading<A: Allocator> {
     Unread(usize),
 }
 
-// Each beginning of a metric's line is a whole line if one of these texts is put behind it.
-const ENDS: [&[u8]; 13] = [
-    b"",
-    b"|c",
-    b"1|c",
-    b":1|c",
-    b".1|c",
-    b"c",
-    b"s",
-    b"1",
-    b".1",
-    &[b'T', b'1'],
-    b":",
-    b"0",
-    b"#",
-];
+// If a text is the beginning of a metric's line, it is a whole line with one of these texts behind it: which ones depends on
+// where it ends.
+const ENDS_OF_NAME: [&[u8]; 1] = [b":1|c"];
+
+const ENDS_OF_VALUES: [&[u8]; 3] = [b"1|c", b"|c", b".1|c"];
+
+const ENDS_OF_TYPE: [&[u8]; 2] = [b"", b"c"];
+
+const ENDS_OF_FIELDS: [&[u8]; 5] = [b"", b"1", b".1", b":", &[b'T', b'1']];
+
+// Returns the texts of which one makes a whole line, behind a beginning of a metric's line.
+fn ends_of(text: &[u8]) -> &'static [&'static [u8]] {
+    let Some((_, others)) = split_once(text, b'|') else {
+        return if text.contains(&b':') {
+            &ENDS_OF_VALUES
+        } else {
+            &ENDS_OF_NAME
+        };
+    };
+    if others.contains(&b'|') {
+        &ENDS_OF_FIELDS
+    } else {
+        &ENDS_OF_TYPE
+    }
+}
+
+// Returns where the character ends that the place is within, or the place if it is between two characters.
+fn end_of_char(text: &[u8], at: usize) -> usize
+    requires { at ≤ length text.now }
+    ensures least { at ≤ result }
+    ensures most { result ≤ length text.now }
+{
+    let (front, others) = text.split_at(at);
+    if str::from_utf8(front).is_ok() {
+        return at;
+    }
+    match others.iter().position(|byte| *byte & 0xc0 != 0x80) {
+        Some(more) => at + more,
+        None => text.len(),
+    }
+}
 
 // Returns whether the text, with the end behind it, is the line of a metric. Both are written into the buffer.
 fn is_line<A: Allocator + Clone>(
@@ -60,7 +87,7 @@ fn can_begin<A: Allocator + Clone>(
 ) -> Result<bool, AllocError>
     ensures { IfOk result (λ is. IsTrue is → CanBegin text.now) }
 {
-    for end in ENDS {
+    for end in ends_of(text) {
         if is_line(alloc, buffer, text, end)? {
             return Ok(true);
         }
@@ -69,7 +96,8 @@ fn can_begin<A: Allocator + Clone>(
 }
 
 // Returns how many bytes of the line are also the first bytes of some metric's line. If a text is the beginning of a
-// line, so is each beginning of the text, and so a binary search finds the longest one.
+// line, so is each beginning of the text, and so a binary search finds the longest one. It tries whole characters only,
+// because no end completes a part of one.
 fn find_place<A: Allocator + Clone>(alloc: &A, line: &[u8]) -> Result<usize, AllocError>
     ensures { IfOk result (IsPlace line.now) }
 {
@@ -77,8 +105,9 @@ fn find_place<A: Allocator + Clone>(alloc: &A, line: &[u8]) -> Result<usize, All
     let (mut good, mut bad) = (0, line.len() + 1);
     while bad - good > 1 {
         let middle = good + (bad - good) / 2;
-        if can_begin(alloc, &mut buffer, &line[..middle])? {
-            good = middle;
+        let at = end_of_char(line, middle);
+        if at < bad && can_begin(alloc, &mut buffer, &line[..at])? {
+            good = at;
         } else {
             bad = middle;
         }

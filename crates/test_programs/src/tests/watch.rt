@@ -116,11 +116,45 @@ fn each_request_may_be_refused(rt: HostRuntime) -> Result<(), Fail> {
     Ok(())
 }
 
+const NUMBER: &str = "a number, as 1 or -0.5, and then a bar";
+
+const TYPE: &str = "the type c, ms, g, m, h, s or d";
+
+const FIELDS: &str = "@RATE, #TAGS, c:CONTAINER and TTIME, in this order";
+
+// Lines, the first byte of each that the reader can't read, and what it wants there.
+const REMARKED: &[(&[u8], usize, &str)] = &[
+    (b"load:+3|g", 6, NUMBER),
+    (b"a:-0|g", 5, NUMBER),
+    (b"a:1::2|ms", 5, NUMBER),
+    (b"a:-0.50|g", 8, NUMBER),
+    (b"a:0.5e3|g", 6, NUMBER),
+    (b"aa\xc3\xb6:x|c", 6, NUMBER),
+    (b"gr\xc3\xb6\xc3\x9fe.w\xc3\xa4rme:+3|g", 16, NUMBER),
+    (b"\xe2\x82\xac\xe2\x82\xac:1|x", 10, TYPE),
+    (b"a:1|mx", 6, TYPE),
+    (b"a:1|c|#\xc3\xb6:\xe2\x82\xac,\xe2\x82\xac:b:c", 20, FIELDS),
+    (b"a:1|c|@-0", 10, FIELDS),
+    (b"a:1|c|@0.50|#a", 12, FIELDS),
+    (b"a:1|c|#a|c:\xe2\x82\xac|T1|", 18, FIELDS),
+    (b"a:1|c|T18446744073709551616", 27, FIELDS),
+    (b"a,b:1|c", 2, "a name and then a colon"),
+    (b"ab\xc3:1|c", 3, "a name and then a colon"),
+    (b"ab\x80:1|c", 3, "a name and then a colon"),
+    (b"a:1|c|#\xc3\xb6\xff", 10, FIELDS),
+];
+
 #[test]
 fn a_remark_has_the_place(rt: HostRuntime) -> Result<(), Fail> {
-    let remark = remark_on(rt.alloc(), b"load:+3|g")?;
-    let wanted = "byte 6: statsd_listen wants a number, as 1 or -0.5, and then a bar";
-    assert!(rt; remark.is_some_and(|remark| remark.as_str() == wanted));
-    assert!(rt; remark_on(rt.alloc(), b"load:3|g")?.is_none());
+    let alloc = rt.alloc();
+    for (line, byte, why) in REMARKED {
+        let wanted = format!(in alloc; "byte {byte}: statsd_listen wants {why}")?;
+        let remark = remark_on(alloc, line)?;
+        assert!(rt;
+            remark.is_some_and(|remark| remark.as_str() == wanted.as_str()),
+            "{wanted}"
+        );
+    }
+    assert!(rt; remark_on(alloc, b"load:3|g")?.is_none());
     Ok(())
 }
