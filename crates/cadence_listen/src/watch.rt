@@ -1,9 +1,10 @@
 //! Prints or counts the lines of packets as they come.
-ghost use Rattle.std.specs.Prelude.{◌≡◌, ◌&&◌, ◌++◌, List, IfOk, OnOk, false, not, string_bytes, true, ℕ};
+ghost use Rattle.std.specs.Prelude.{◌≡◌, ◌&&◌, ◌++◌, List, IfOk, OnOk, Option, false, not, string_bytes, true, ℕ};
 ghost use Rattle.std.specs.Io.KnownBytes.{Appends};
+ghost use Rattle.std.specs.Option.{option_map};
 ghost use Rattle.cadence_listen.specs.Filters.{pieces};
 ghost use Rattle.cadence_listen.specs.Readable.{Tells};
-ghost use Rattle.cadence_listen.specs.Rows.{AreRows, IsRow, IsRowOf, IsWithoutLast, front_column};
+ghost use Rattle.cadence_listen.specs.Rows.{AreRows, IsRemarkOf, IsRow, IsRowOf, IsWithoutLast, front_column, remark_column};
 
 use crate::counts::Counts;
 use crate::faults::tell_faults;
@@ -61,7 +62,10 @@ impl<T: Drop> From<AllocFailed<T>> for WatchError {
 }
 
 // Returns the remark on a line. Only a metric's line has one.
-fn remark_of(alloc: Global, line: &[u8], is: AnyLine<'_>) -> Result<Option<String>, AllocError> {
+fn remark_of(alloc: Global, line: &[u8], is: AnyLine<'_>) -> Result<Option<String>, AllocError>
+    ensures { IfOk result (λ remark.
+        IsRemarkOf line.now is.entry (option_map string_bytes remark)) }
+{
     match is {
         AnyLine::MetricLine(_) => remark_on(alloc, line),
         _ => Ok(None),
@@ -111,8 +115,8 @@ fn push_remark(
     line: &[u8],
     is: AnyLine<'_>,
 ) -> Result<(), AllocError>
-    ensures { OnOk result ((remark : List ℕ) ×
-        (string_bytes out.new ≡ string_bytes out.old ++ remark)) }
+    ensures { OnOk result ((remark : Option (List ℕ)) × IsRemarkOf line.now is.entry remark
+        × (string_bytes out.new ≡ string_bytes out.old ++ remark_column remark)) }
 {
     match remark_of(alloc, line, is)? {
         Some(remark) => {
@@ -131,7 +135,7 @@ fn push_columns(
     is: AnyLine<'_>,
     origin: Origin<'_>,
 ) -> Result<(), AllocError>
-    ensures { OnOk result ((row : List ℕ) × IsRow origin.entry is.entry row
+    ensures { OnOk result ((row : List ℕ) × IsRow origin.entry line.now is.entry row
         × (string_bytes out.new ≡ string_bytes out.old ++ row)) }
 {
     push_front(out, origin.time)?;
