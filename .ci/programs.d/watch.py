@@ -123,14 +123,30 @@ def filter_cases(program):
     yield 'three filters', got, (b'metric\tapp.a\t1\tc\t|#env:prod,web\n', message, 2)
 
 
+# Packets whose lines are counted; the table for some options; and options that can't be used.
+COUNTED = [b'b:1|c\na:1|c\r\nb:2|g\n', b'b:3|g\na:x|s\n%s\nc:1|c\n' % EVENT]
+COUNTS = [
+    (['--top', '0'], b'3\tmetric\tb\n2\tmetric\ta\n1\tevent\n1\tmetric\tc\n\n'),
+    (['--top', '60', '--names', '4'], b'3\tmetric\tb\n2\tmetric\ta\n1\tevent\n1\tmetric\tc\n\n'),
+    (['--top', '0', '--names', '2'], b'3\tmetric\tb\n2\tmetric\ta\n2\tof other names\n\n'),
+    (['--top', '0', '--names', '0'], b'7\tof other names\n\n'),
+    (['--top', '60', '--only', 'b'], b'3\tmetric\tb\n\n'),
+    (['--top', '0', '--kind', 'g'], b'2\tmetric\tb\n\n'),
+    (['--top', '0', '--tag', 'a'], b'\n'),
+]
+UNCOUNTED = [['--top', '0', '--json'], ['--top', '0', '--time'], ['--top', '0', '--sender'], ['--names', '2'], ['--top', 'x']]
+
+
 def top_cases(program):
     """Yields runs that count lines by name: at the end, and again and again."""
-    packets = [b'b:1|c\na:1|c\nb:2|g\n', b'b:3|g\na:x|s\n%s\nc:1|c\n' % EVENT]
-    table = b'3\tmetric\tb\n2\tmetric\ta\n1\tevent\n1\tmetric\tc\n\n'
-    yield 'counts', watched(program, ['--top', '0'], packets), (table, b'', 0)
-    yield 'counts of some', watched(program, ['--top', '60', '--only', 'b'], packets), (b'3\tmetric\tb\n\n', b'', 0)
-    output, errors, status = watched(program, ['--top', '0', '--json'], [])
-    yield 'counts as JSON', (output, b'--json' in errors, status), (b'', True, 2)
+    for options, table in COUNTS:
+        yield f'counts, {options}', watched(program, options, COUNTED), (table, b'', 0)
+    message = b'statsd_watch: packet 1, line 2: wants NAME:VALUE|TYPE: b\n'
+    for options, table in [([], b'1\tmetric\ta\n1\tunreadable\n\n'), (['--strict'], b'\n'), (['--only', 'a'], b'1\tmetric\ta\n\n')]:
+        yield f'counts with an unreadable line, {options}', watched(program, ['--top', '0', *options], [b'a:1|c\nb']), (table, message, 2)
+    for options in UNCOUNTED:
+        output, errors, status = watched(program, options, [])
+        yield f'{options}', (output, b'--top' in errors, status), (b'', True, 2)
     with tempfile.TemporaryDirectory() as room:
         run = started_at(program, f'{room}/s', '--for', '3', '--top', '1')
         output, errors = run.communicate(timeout=LONGEST)

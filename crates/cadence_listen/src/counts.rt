@@ -62,23 +62,27 @@ impl Counts {
         }
     }
 
-    /// Returns a row for each name, with the count, a tab, what the lines are, a tab and the name. The greatest count comes
-    /// first, and among equal ones the first name.
+    /// Returns a row for each name, but for no more than `most`, with the count, a tab, what the lines are, a tab and the
+    /// name. The greatest count comes first, and among equal ones the first name. If there are other names, their lines
+    /// are counted in a last row.
     ///
     /// # Errors
     /// The only error is that memory ran out.
-    pub fn table(&self, alloc: Global) -> Result<String, AllocError> {
+    pub fn table(&self, alloc: Global, most: usize) -> Result<String, AllocError> {
         let mut rows = Vec::new(alloc);
         for (heading, count) in &self.lines {
             rows.push((Reverse(*count), heading.as_str()))?;
         }
         rows.sort()?;
-        let mut text = String::new(alloc);
-        for (Reverse(count), heading) in &rows {
+        let (first, rest) = rows.split_at(most.min(rows.len()));
+        let (mut text, mut others) = (String::new(alloc), self.others);
+        for (Reverse(count), heading) in first {
             writeln!(text, "{count}\t{heading}")?;
         }
-        if self.others > 0 {
-            let others = self.others;
+        for (Reverse(count), _) in rest {
+            others = others.saturating_add(*count);
+        }
+        if others > 0 {
             writeln!(text, "{others}\tof other names")?;
         }
         Ok(text)

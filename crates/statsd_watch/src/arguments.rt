@@ -44,6 +44,9 @@ SECONDS seconds and at the end it prints the counts since the start,
 with 0 only at the end; it can't be used with --json, --time or
 --sender";
 
+const NAMES: &str = "with --top, prints only the N names with the most lines, and then how
+many lines the others have together";
+
 /// Where packets are received.
 #[derive(Clone, Copy, Debug)]
 pub enum Place<'a> {
@@ -80,6 +83,8 @@ pub struct Arguments<'a> {
     /// After how many seconds the counts are printed again, if the lines are counted in place of being printed. With 0 they
     /// are printed only at the end.
     pub top: Option<u64>,
+    /// How many names have a count of their own when the counts are printed.
+    pub names: usize,
 }
 
 /// Why the command line can't be followed.
@@ -139,6 +144,7 @@ fn command<'a>(alloc: Global) -> Result<Command<'a>, AllocError> {
         .conflicts_with("json")?
         .conflicts_with("time")?
         .conflicts_with("sender")?;
+    let names = number(alloc, "names", "N", NAMES).requires_arg("top")?;
     Command::new(alloc, "statsd_watch")
         .version("0.8.0")
         .about(ABOUT)
@@ -154,6 +160,7 @@ fn command<'a>(alloc: Global) -> Result<Command<'a>, AllocError> {
         .arg(pattern(alloc, "kind", "TYPE", KIND))?
         .arg(pattern(alloc, "tag", "TAG", TAG))?
         .arg(top)?
+        .arg(names)?
         .arg(flag(alloc, "strict", STRICT))
 }
 
@@ -190,6 +197,14 @@ fn pattern_of<'a>(matches: &ArgMatches<'a>, name: &str) -> Option<&'a [u8]> {
     Some(matches.get_str(name)?.as_bytes())
 }
 
+// Returns how many names have a count of their own, which is all of them if nothing is said.
+fn most_names(asked: Option<u64>) -> usize {
+    match asked {
+        Some(most) => usize::try_from(most).unwrap_or(usize::MAX),
+        None => usize::MAX,
+    }
+}
+
 /// Reads the command line: the name of the program, and then its words.
 ///
 /// # Errors
@@ -211,6 +226,7 @@ pub fn read_arguments<'a>(
         has_time: matches.get_flag("time"),
         has_sender: matches.get_flag("sender"),
         top: matches.get_one::<u64>("top"),
+        names: most_names(matches.get_one::<u64>("names")),
         format: WatchFormat {
             filter: Filter {
                 name: pattern_of(&matches, "only"),

@@ -66,9 +66,13 @@ impl Printer {
     ///
     /// # Errors
     /// The output's, or that memory ran out.
-    pub fn print_counts(&mut self, rt: &HostRuntime) -> Result<(), Stop> {
+    pub fn print_counts(
+        &mut self,
+        rt: &HostRuntime,
+        arguments: &Arguments<'_>,
+    ) -> Result<(), Stop> {
         self.last = Instant::now(rt).ok();
-        let mut text = self.counts.table(rt.alloc())?;
+        let mut text = self.counts.table(rt.alloc(), arguments.names)?;
         text.push('\n')?;
         if let Err(why) = self.output.write_all(text.as_bytes()) {
             return Err(Stop::Output(why));

@@ -44,7 +44,7 @@ pub fn receive_all(
     let mut printer = Printer::new(rt)?;
     let received = receive_each(rt, arguments, receiver, &mut drops, &mut printer);
     if arguments.top.is_some() {
-        printer.print_counts(rt)?;
+        printer.print_counts(rt, arguments)?;
     }
     received?;
     let status = if printer.is_whole() { 0 } else { 2 };
@@ -83,7 +83,7 @@ fn receive_each(
             received?;
         }
         if printer.left(rt, arguments) == Some(Duration::ZERO) {
-            printer.print_counts(rt)?;
+            printer.print_counts(rt, arguments)?;
         }
         if !is_waiting || drops.note_packets(rt) {
             drops.look(rt);

@@ -72,7 +72,10 @@ fn lines_are_counted(rt: HostRuntime) -> Result<(), Fail> {
         count_packet(alloc, packet, 3, format, &mut counts, &mut errors)?;
     }
     let table = "3\tmetric\tb\n1\tcheck\n1\tmetric\ta\n1\tunreadable\n";
-    assert!(rt; counts.table(alloc)?.as_str() == table);
+    assert!(rt; counts.table(alloc, 4)?.as_str() == table);
+    let first = "3\tmetric\tb\n1\tcheck\n2\tof other names\n";
+    assert!(rt; counts.table(alloc, 2)?.as_str() == first);
+    assert!(rt; counts.table(alloc, 0)?.as_str() == "6\tof other names\n");
     assert!(rt; errors.as_slice() == MESSAGE);
     Ok(())
 }
