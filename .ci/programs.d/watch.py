@@ -1,6 +1,7 @@
 """The tests of `statsd_watch`."""
 import errno, os, re, signal, socket, subprocess, tempfile, time
 
+from other_clients import CLIENTS, OTHERS, UNREADABLE, line_of, printed_of, shown
 from running import LONGEST, bound, result_of, status_of
 
 # Packets; the rows that are printed for them, and the message.
@@ -11,29 +12,10 @@ WATCHED_JSON = [
     b'{"is":"metric","name":"b","values":[3],"type":"c"}\n{"is":"unreadable","line":"c"}\n',
     b'{"is":"metric","name":"\\"","values":[],"type":"g"}\n',
 ]
-UNREADABLE = b'statsd_watch: packet 2, line 2: wants NAME:VALUE|TYPE: c\n'
+WATCHED_MESSAGE = b'statsd_watch: packet 2, line 2: wants NAME:VALUE|TYPE: c\n'
 VISITS = b'metric\ta\t1\tc\t\n'  # what is printed of the line a:1|c
 
-# Lines of other clients; the row of each without its first word and its remark, and the beginning of the remark.
-WANTED = b': statsd_listen wants '
-FOREIGN = [
-    (b'load:0.50|g', b'load\t0.50\tg\t', b'byte 10'),
-    (b'a:.5|g', b'a\t.5\tg\t', b'byte 3'),
-    (b'a:1e-05|g', b'a\t1e-05\tg\t', b'byte 4'),
-    (b'load:+3|g', b'load\t+3\tg\t', b'byte 6'),
-    (b'a:-0|g', b'a\t-0\tg\t', b'byte 5'),
-    (b'a:NaN|g', b'a\tNaN\tg\t', b'byte 3'),
-    (b'users:alice|s', b'users\talice\ts\t', b'byte 7'),
-    (b'a:1|c|#url:http://x:80/', b'a\t1\tc\t|#url:http://x:80/', b'byte 16'),
-    (b'a:1|c|#a:b|@0.5', b'a\t1\tc\t|#a:b|@0.5', b'byte 12'),
-    (b'a:1|c|#a|T7|c:id', b'a\t1\tc\t|#a|T7|c:id', b'byte 12'),
-    (b'a:1|c|c:id|e:it-false,cn-x|card:low', b'a\t1\tc\t|c:id|e:it-false,cn-x|card:low', b'byte 12'),
-    (b'a:1|c|x', b'a\t1\tc\t|x', b'byte 7'),
-    (b'a:1|c|', b'a\t1\tc\t|', b'byte 7'),
-    (b'a:1|x', b'a\t1\tx\t', b'byte 5'),
-    (b'a\tb:\xff|c', b'a\\x09b\t\\xff\tc\t', b'byte 5'),
-]
-EVENT, CHECK = b'_e{5,4}:title|text|t:warning|#a:b', b'_sc|web|0|#a:b|m:ok'
+EVENT = OTHERS[0][0]
 
 
 def watch_cases(program):
@@ -88,17 +70,16 @@ def watched(program, options, packets):
 
 
 def foreign_cases(program):
-    """Yields runs that get lines of other clients. A server can read each of them."""
-    for line, parts, place in FOREIGN:
-        output, errors, status = watched(program, [], [line])
-        row = b'metric\t' + parts + b'\t' + place + WANTED
-        yield f'{line}: {output}', (output.startswith(row), output.count(b'\n'), errors, status), (True, 1, b'', 0)
-    for line, row in [(EVENT, b'event\t%s\n' % EVENT), (CHECK, b'check\t%s\n' % CHECK), (b'', b''), (b'\n', b'')]:
-        yield line, watched(program, [], [line]), (row, b'', 0)
-    for line in (b'a', b'a:1', b'a|c', b'a|b:1', b'\r\r'):
-        shown = line.replace(b'\r\r', b'\\x0d')
-        message = b'statsd_watch: packet 1, line 1: wants NAME:VALUE|TYPE: %s\n' % shown
-        yield line, watched(program, [], [line]), (b'unreadable\t%s\n' % shown, message, 2)
+    """Yields runs that get lines of other clients: a server can read each metric, event and service check, and no other line."""
+    for client, rows in CLIENTS.items():
+        wanted = b''.join(map(printed_of, rows))
+        yield f'lines of {client}', watched(program, [], list(map(line_of, rows))), (wanted, b'', 0)
+        yield f'a packet of {client}', watched(program, [], [b'\r\n'.join(map(line_of, rows))]), (wanted, b'', 0)
+    lines, wanted = [line for line, _ in OTHERS], b''.join(b'%s\t%s\n' % (word, line) for line, word in OTHERS)
+    yield 'events and checks', watched(program, [], [*lines, b'', b'\n']), (wanted, b'', 0)
+    for line in [*UNREADABLE, b'\r']:
+        message = b'statsd_watch: packet 1, line 1: wants NAME:VALUE|TYPE: %s\n' % shown(line)
+        yield line, watched(program, [], [line + b'\r']), (b'unreadable\t%s\n' % shown(line), message, 2)
     yield 'CR LF', watched(program, [], [b'a:1|c\r\na:1|c\r\n\r\n', b'a:1|c\r']), (VISITS * 3, b'', 0)
     output = b'{"is":"metric","name":"a","values":[".5",1e-05,"x"],"type":"ms","tags":["k:v:w"],"rate":0.5,"fields":["e:x","#z"],"remark":"byte 3'
     got = watched(program, ['--json'], [b'a:.5:1e-05:x|ms|#k:v:w|@0.5|e:x|#z'])
@@ -163,7 +144,7 @@ def watch_path(program, path, options, wanted):
             for packet in WATCHED_PACKETS:
                 sender.sendto(packet, path)
         output, errors = run.communicate(timeout=LONGEST)
-        yield f'watched, {options}', (run.returncode, output, errors), (2, wanted, UNREADABLE)
+        yield f'watched, {options}', (run.returncode, output, errors), (2, wanted, WATCHED_MESSAGE)
         yield f'the file after that, {options}', os.path.exists(path), False
 
 
