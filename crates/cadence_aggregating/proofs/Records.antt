@@ -1,5 +1,6 @@
 -- The record of an aggregator, one step further, and what it shows.
-use Rattle.std.proofs.Common.{◌≡◌, inl, inr, ℕ, List, [], ◌∷◌, ◌++◌, map, refl, sym, ap, ap₂, subst, ◌∙◌, append-nil, append_assoc}
+use Rattle.std.proofs.Common.{◌≡◌, ◌⊎◌, inl, inr, ℕ, List, [], ◌∷◌, ◌++◌, Result, Ok, Err, MatchResult, OnOk, length, map, refl, sym, ap, ap₂, subst, ◌∙◌, append-nil, append_assoc}
+use Rattle.std.proofs.Math.Logic.{∥∥₁_map}
 use Rattle.std.proofs.lemmas.List.{map-append}
 use Rattle.std.specs.List.{AllZip}
 use Rattle.cadence_aggregate.specs.Server.{Sample, IsSummary}
@@ -11,9 +12,13 @@ use Rattle.cadence_aggregate.specs.Within.{StayWithin}
 use Rattle.cadence_aggregate.proofs.Within.{stay_further, stay_more, stay_same}
 use Rattle.cadence_aggregating.specs.Past.{SumsUp, SumsUpWithin, Summarizes}
 use Rattle.cadence_aggregating.specs.Accepted.{line_of_entry, lines_of_entries}
+use Rattle.cadence_errors.specs.declared.SinkError.{SinkError}
 use Rattle.cadence_aggregating.specs.declared.accepted.Accepted.{Accepted}
+use Rattle.cadence_aggregating.specs.declared.recorded.RecordedAggregator.{RecordedAggregator}
 use Rattle.cadence_aggregating.specs.Printed.{line_saying}
+use Rattle.cadence_aggregating.specs.Recorded.{samples_held}
 use Rattle.cadence_aggregating.specs.Says.{LineSays}
+use Rattle.cadence_aggregating.specs.Shown.{AcceptsNone, SendsAll}
 use Rattle.cadence_aggregating.specs.declared.note.Note.{Note}
 use Rattle.cadence_aggregating.specs.declared.note.Kind.TheVariants.{Amount, Level, Member, Timing, Unclear, Other}
 use Rattle.cadence_aggregating.proofs.Among.{Among}
@@ -101,6 +106,12 @@ summarizes accepted notes held (said, zip, sum) =
     (sayable said (sent ++ held) sum (all_said accepted said zip) (sample_of_note note)
     (among_left (sample_of_note note) sent held (among_mapped sample_of_note note notes among)) (sized note)) in
     (sent, all_noted notes each, (said, zip, sum))
+
+-- what the fact of a record shows
+pub past_shows : (limit : ℕ) (accepted : List (List ℕ)) (notes : List Note) (held : List Sample)
+    → ∥ SumsUpWithin limit accepted (map sample_of_note notes) held ∥₁ → ∥ Summarizes accepted (map line_of_note notes) held ∥₁
+past_shows limit accepted notes held past =
+    ∥∥₁_map past (λ p. summarizes accepted notes held (without_limit limit accepted (map sample_of_note notes) held p))
 
 -- the lines of notes say what the notes say
 pub noted_lines : (notes : List Note) → map line_of_note notes ≡ map line_saying (map sample_of_note notes)
@@ -191,3 +202,15 @@ pub summed_shows : (accepted : List (List ℕ)) (gone waiting : List Note) (held
     → Summarizes accepted (map line_of_note gone ++ map line_of_note waiting) held
 summed_shows accepted gone waiting held past =
     subst (λ lines. Summarizes accepted lines held) (map-append line_of_note gone waiting) (summarizes accepted (gone ++ waiting) held past)
+
+-- lines without their lengths
+pub without_lengths : (lines : List (List ℕ)) → map (λ (taken : List ℕ × ℕ). taken.0) (map (λ line. (line, length line)) lines) ≡ lines
+without_lengths [] = refl
+without_lengths (line ∷ lines) = ap (λ ls. line ∷ ls) (without_lengths lines)
+
+-- after a flush that succeeded nothing is held, however the sink below answered it
+pub emptied : {S Answered : Type 0} (old new : RecordedAggregator S) (flushed : Result (Unit {0}) SinkError)
+    → (SendsAll old new × Answered) ⊎ MatchResult flushed (λ _. ⊥) (AcceptsNone old new) → OnOk flushed (samples_held new ≡ [])
+emptied old new (Ok done) (inl (all, answered)) = all.none
+emptied old new (Ok done) (inr none) = absurd none
+emptied old new (Err e) ends = tt

@@ -1,5 +1,7 @@
 -- What contracts see of an aggregator of lines.
 use Rattle.std.specs.Prelude.{ℕ, List, length, map}
+use Rattle.cadence_stage.specs.Call.{Call}
+use Rattle.cadence_stage.specs.Past.{taken_in}
 use Rattle.cadence_aggregate.specs.Aggregate.{held}
 use Rattle.cadence_aggregate.specs.Server.{Sample}
 use Rattle.cadence_aggregate.specs.declared.aggregator.Aggregator.{Aggregator}
@@ -7,6 +9,10 @@ use Rattle.cadence_aggregating.specs.Notes.{line_of_note}
 use Rattle.cadence_aggregating.specs.Accepted.{lines_of_entries}
 use Rattle.cadence_aggregating.specs.declared.limits.Limits.{Limits}
 use Rattle.cadence_aggregating.specs.declared.recorded.RecordedAggregator.{RecordedAggregator}
+
+-- the lines of these calls that were accepted, in order
+abbrev pub lines_in_calls : List Call → List (List ℕ)
+lines_in_calls calls = map (λ taken. taken.0) (taken_in calls)
 
 module _ {S : Type 0} where
   -- the lines that were accepted, in order

@@ -6,6 +6,7 @@
 //! - `printer`: prints the lines of an aggregator as text, for a sink of metrics.
 //! - `limits`: the settings of an aggregator.
 //! - `recorded`: an aggregator of lines over a sink of metrics, with a record of its past, as a stage.
+//! - `looks`: what a look at a queue says whose worker feeds an aggregator.
 //! - `waiting`: lines that wait until their owner has sent them.
 //! - `summed`: lines that are added up for one thread, and wait to be sent.
 //! - `runs`: a run of lines and flushes.
@@ -28,6 +29,7 @@ mod handler;
 mod keys;
 mod limits;
 mod locked;
+mod looks;
 mod note;
 mod printed;
 mod printer;
@@ -44,6 +46,7 @@ pub use client::AggregatedClient;
 pub use handler::{FlushErrorHandler, NopFlushErrorHandler};
 pub use keys::{CounterKey, GaugeKey, LineKey};
 pub use limits::Limits;
+pub use looks::{holds_nothing, summary};
 pub use note::{Kind, Note};
 pub use printed::note_line;
 pub use recorded::RecordedAggregator;

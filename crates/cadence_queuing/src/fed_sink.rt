@@ -3,7 +3,7 @@ ghost use Rattle.std.specs.Option.{ok_or};
 ghost use Rattle.std.specs.Prelude.{◌≡◌, [], ◌∷◌, ◌++◌, map, string_bytes};
 ghost use mathlib.Core.List.{IsPrefix};
 ghost use Rattle.cadence_stage.specs.Call.{Flush, Line, call_of};
-ghost use Rattle.cadence_queuing.specs.Fed.{calls_of, texts_seen};
+ghost use Rattle.cadence_queuing.specs.Fed.{calls_of, fed_stage, texts_seen};
 ghost use Rattle.cadence_stage.specs.Kept.{IsStep};
 ghost use Rattle.cadence_stage.specs.Past.{lines_in};
 
@@ -88,15 +88,22 @@ impl<S: Stage, R: Wait + Drop, A: Allocator, J: Names> FedSink<S, R, A, J> {
         (Snapshot::of(&*stage), seen)
     }
 
-    /// Looks at the stage with the right of a worker that has ended. It was given just the lines of the right.
-    pub fn look_by(&self, feed: &mut Right<Entry>) -> Snapshot<FedStage<S, A, J>>
+    /// Flushes the stage, and looks at it with the right of a worker that has ended: it was given just the lines of the
+    /// right.
+    pub fn flush_by(
+        &self,
+        feed: &mut Right<Entry>,
+    ) -> (Snapshot<FedStage<S, A, J>>, Result<(), SinkError>)
         requires { feed.old.name ≡ J.names.fed }
-        ensures fed { calls_of result.value ≡ map call_of feed.old.items }
+        ensures fed { calls_of result.0.value ≡ map call_of feed.old.items }
+        ensures step { (before : S) × S.step before (fed_stage result.0.value) (Flush result.1) }
         ensures same { feed.new ≡ feed.old }
     {
+        let mut fault = SinkError::NothingWritten;
         let mut stage = self.stage.lock(&self.rt);
         stage.meets(feed);
-        Snapshot::of(&*stage)
+        let done = stage.empty(&mut fault);
+        (Snapshot::of(&*stage), done.ok_or(fault))
     }
 }
 

@@ -22,4 +22,4 @@ pub use udp::{
     BufferedUdpMetricSink, BufferedUdpMetricSinkBuilder, UdpLines, UdpMetricSink,
     UdpMetricSinkBuilder,
 };
-pub use unix::{BufferedUnixMetricSink, PathSocket, UnixMetricSink};
+pub use unix::{BufferedUnixMetricSink, PathSocket, UnixLines, UnixMetricSink};

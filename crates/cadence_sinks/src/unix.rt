@@ -1,17 +1,18 @@
 //! Sinks over a datagram socket that sends to a path: one sends each line alone, the other packs lines.
-ghost use Rattle.std.specs.Prelude.{◌≡◌, Bool, true, IfOk};
+ghost use Rattle.std.specs.Prelude.{◌≡◌, [], Bool, true, IfOk};
 ghost use Rattle.cadence_errors.specs.Errors.{MayOnlyRunOutOfMemory};
 ghost use Rattle.cadence_errors.specs.declared.SinkError.{SinkError};
+ghost use Rattle.cadence_flow.specs.RecordedPacker.{past_of};
 ghost use Rattle.cadence_stage.specs.Answered.{IsAnswered, IsFlushAnswered, answered_by_holding_nothing};
 ghost use Rattle.cadence_sinks.specs.Buffers.{unix_buffer};
 ghost use Rattle.cadence_sinks.specs.Sockets.{IsBufferedAnswer, IsBufferedFlush, IsSocketAnswer};
 ghost use Rattle.cadence_sinks.specs.Unix.{unix_path};
 
-use super::datagram::{CountedSocket, DatagramSocket, PackedSocket};
+use super::datagram::{CountedSocket, DatagramSocket, PackedSocket, SocketLines, packed_lines};
 use cadence_errors::{MetricResult, SinkError};
-use cadence_flow::MetricSink;
 use cadence_flow::io::DEFAULT_CAPACITY;
 use cadence_flow::stats::{SinkStats, Unread};
+use cadence_flow::{MetricSink, SocketStats};
 use cadence_stage::{OneCall, emit_by, flush_by};
 use std::alloc::{Allocator, Global};
 use std::sync::Wait;
@@ -48,6 +49,9 @@ impl<P: PathSocket, A: Allocator> DatagramSocket for PathPeer<P, A> {
         Unread::of(taken, packet)
     }
 }
+
+/// The packer of a sink over a Unix socket.
+pub type UnixLines<P, R, A> = SocketLines<PathPeer<P, A>, R, A>;
 
 /// A sink that sends each line as a datagram to a path, in the thread of the caller.
 ///
@@ -138,6 +142,22 @@ impl<P: PathSocket, R: Wait + Clone + Drop, A: Allocator + Clone> BufferedUnixMe
         let path = String::from_str(alloc.clone()?, path)?;
         let socket = PackedSocket::new(rt, alloc, PathPeer { socket, path }, capacity)?;
         Ok(BufferedUnixMetricSink { socket })
+    }
+
+    /// Makes the packer of the sink that `with_capacity` makes, which took no line yet, and the counts of its socket, for
+    /// a queue whose worker feeds it. The errors are those of `with_capacity`.
+    pub fn stage(
+        rt: R,
+        alloc: A,
+        path: &str,
+        socket: P,
+        capacity: usize,
+    ) -> MetricResult<(UnixLines<P, R, A>, SocketStats<R, A>)>
+        ensures none { IfOk result (λ s. past_of s.0 ≡ []) }
+        ensures refused { MayOnlyRunOutOfMemory result }
+    {
+        let path = String::from_str(alloc.clone()?, path)?;
+        packed_lines(rt, alloc, PathPeer { socket, path }, capacity)
     }
 }
 

@@ -1,10 +1,10 @@
 //! A service whose lines are proved to arrive. Two threads count over one queue, whose worker feeds a packer. `stop` says
-//! in its contract what became of their lines; its proof takes one step over the clauses of `stop_and_look`.
+//! in its contract what became of their lines; its proof takes one step over the clauses of `stop_and_flush`.
 //!
 //! It prints how many lines the packets have. Which thread's line comes first is not known.
 #![tactic(auto)]
 
-ghost use Rattle.std.specs.Prelude.{◌≡◌, false, map, string_bytes};
+ghost use Rattle.std.specs.Prelude.{◌≡◌, [], OnOk, false, map, string_bytes};
 ghost use Rattle.cadence_queue.specs.QueueState.{drops};
 ghost use Rattle.cadence_queuing.specs.Logs.{names_of};
 ghost use Rattle.cadence_queuing.specs.Look.{calls_at, policy_at, stage_at, texts_accepted};
@@ -12,13 +12,13 @@ ghost use Rattle.cadence_flow.specs.RecordedPacker.{packer_of};
 ghost use Rattle.cadence_queuing.specs.Delivered.{IsPackedOf};
 ghost use Rattle.cadence_stage.specs.Past.{lines_in};
 
+use cadence::pipeline::{FedLogs, FedSink, Look, Named, Names, SpyLines, WorkerLogs};
 use cadence::prelude::*;
+use cadence::sinks::SpyReceiver;
 use cadence::{
-    BufferedSpyMetricSink, MetricResult, QueuingMetricSink, QueuingMetricSinkBuilder, StatsdClient,
+    BufferedSpyMetricSink, MetricResult, QueuingMetricSink, QueuingMetricSinkBuilder, SinkError,
+    StatsdClient,
 };
-use cadence_queuing::{FedLogs, FedSink, Look, WorkerLogs};
-use cadence_sinks::{SpyLines, SpyReceiver};
-use cadence_stage::{Named, Names};
 use std::alloc::Global;
 use std::marker::Brand;
 use std::sync::Wait;
@@ -33,17 +33,22 @@ type Queue<R, J> = QueuingMetricSink<
     Named<J>,
 >;
 
-/// Stops the queue, and waits for its worker. Then the packer was given each accepted line, once and in the order of
-/// acceptance, and the packets and the held text are the frames of the lines that it took.
-fn stop<R: Wait + Drop, J: Names>(queue: &Queue<R, J>) -> Look<SpyLines<R, Global>, Global, J>
-    ensures given { drops (policy_at result) ≡ false →
-        ∥ lines_in (calls_at result) ≡ map string_bytes (texts_accepted result) ∥₁ }
-    ensures packed { ∥ IsPackedOf (packer_of (stage_at result)) (calls_at result) ∥₁ }
+/// Stops the queue, waits for its worker, and flushes the packer. Then the packer was given each accepted line, once and
+/// in the order of acceptance. The packets and the held text are the frames of the lines that it took, and nothing is
+/// held if the flush succeeded.
+fn stop<R: Wait + Drop, J: Names>(
+    queue: &Queue<R, J>,
+) -> (Look<SpyLines<R, Global>, Global, J>, Result<(), SinkError>)
+    ensures given { drops (policy_at result.0) ≡ false →
+        ∥ lines_in (calls_at result.0) ≡ map string_bytes (texts_accepted result.0) ∥₁ }
+    ensures packed { ∥ IsPackedOf (packer_of (stage_at result.0)) (calls_at result.0) ∥₁ }
+    ensures sent { OnOk result.1 ((packer_of (stage_at result.0)).held ≡ []) }
 {
     let mut receipt = queue.accepted();
-    let look = queue.stop_and_look(&mut receipt);
+    let (look, flushed) = queue.stop_and_flush(&mut receipt);
     look.frames();
-    look
+    look.holds_nothing(&flushed);
+    (look, flushed)
 }
 
 // The work of one thread.
@@ -86,9 +91,9 @@ fn serve<
     let queue = QueuingMetricSinkBuilder::new().build_fed(rt.clone()?, alloc, sink, logs)?;
     let client = StatsdClient::from_sink(alloc, "shop", queue)?;
     let (one, two) = thread::join(rt, || count(&client, "visits"), || count(&client, "orders"));
-    let _look = stop(client.sink());
-    client.flush()?;
     one.and(two)?;
+    let (_look, flushed) = stop(client.sink());
+    flushed?;
     Ok(count_lines(&receiver))
 }
 

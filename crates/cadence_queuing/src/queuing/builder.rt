@@ -181,7 +181,7 @@ impl<A: Allocator + Clone + Send + Sync + 'static> QueuingMetricSinkBuilder<A> {
     }
 
     /// Makes a sink whose worker feeds a `FedSink`, and starts the worker. The logs of the three have the names `J`, so
-    /// `look` and `stop_and_look` can say what became of the lines. The errors are those of `build`.
+    /// `look` and `stop_and_flush` can say what became of the lines. The errors are those of `build`.
     pub fn build_fed<
         S: Stage + Send + 'static,
         R: Wait + Clock + Threads + Clone + Drop + Send + Sync + 'static,

@@ -52,47 +52,52 @@ impl<S: Stage, R: Wait + Drop, A: Allocator, J: Names> QueuingMetricSink<
         Look::new(queue, stage)
     }
 
-    /// Stops the queue for all handles, and waits for the worker, as `stop_and_wait` does. Then each line that the queue
-    /// accepted and didn't drop was handed to the stage once, in the order of acceptance, and nobody else gave it a line
-    /// (`delivered`, `given`). It took just those of them that it answered with a number. The lines of the receipt were
-    /// accepted first.
-    pub fn stop_and_look(&self, receipt: &mut Seen<String<A>>) -> Look<S, A, J>
+    /// Stops the queue for all handles, waits for the worker, as `stop_and_wait` does, and flushes the stage. Then each
+    /// line that the queue accepted and didn't drop was handed to the stage once, in the order of acceptance, and nobody
+    /// else gave it a line (`delivered`, `given`). It took just those of them that it answered with a number. The lines
+    /// of the receipt were accepted first. The result of the flush comes with the look.
+    pub fn stop_and_flush(
+        &self,
+        receipt: &mut Seen<String<A>>,
+    ) -> (Look<S, A, J>, Result<(), SinkError>)
         requires { receipt.old.name ≡ J.names.accepted }
-        ensures delivered { ∥ AreDelivered (policy_at result)
-            (texts_accepted result) (texts_taken result) ∥₁ }
-        ensures given { lines_in (calls_at result) ≡ map string_bytes (texts_taken result) }
-        ensures took { S.taken (stage_at result) ≡ taken_in (calls_at result) }
-        ensures found { IsPrefix receipt.old.items (texts_accepted result) }
+        ensures delivered { ∥ AreDelivered (policy_at result.0)
+            (texts_accepted result.0) (texts_taken result.0) ∥₁ }
+        ensures given { lines_in (calls_at result.0) ≡ map string_bytes (texts_taken result.0) }
+        ensures took { S.taken (stage_at result.0) ≡ taken_in (calls_at result.0) }
+        ensures flushed { (before : S) × S.step before (stage_at result.0) (Flush result.1) }
+        ensures found { IsPrefix receipt.old.items (texts_accepted result.0) }
         ensures same { receipt.new ≡ receipt.old }
     {
         drop(self.shared.queue.stop(&self.rt));
         let mut left = self.end.wait(&self.rt);
         match &mut *left {
-            Some(passed) => self.look_at_end(passed, receipt),
+            Some(passed) => self.flush_at_end(passed, receipt),
             None => unreachable!(),
         }
     }
 
-    // Looks at the queue and at the stage of a worker that has ended.
-    fn look_at_end(
+    // Looks at the queue of a worker that has ended, and flushes the stage.
+    fn flush_at_end(
         &self,
         passed: &mut Passed<A, Named<J>>,
         receipt: &mut Seen<String<A>>,
-    ) -> Look<S, A, J>
+    ) -> (Look<S, A, J>, Result<(), SinkError>)
         requires { receipt.old.name ≡ J.names.accepted }
-        ensures delivered { ∥ AreDelivered (policy_at result)
-            (texts_accepted result) (texts_taken result) ∥₁ }
-        ensures given { lines_in (calls_at result) ≡ map string_bytes (texts_taken result) }
-        ensures took { S.taken (stage_at result) ≡ taken_in (calls_at result) }
-        ensures found { IsPrefix receipt.old.items (texts_accepted result) }
+        ensures delivered { ∥ AreDelivered (policy_at result.0)
+            (texts_accepted result.0) (texts_taken result.0) ∥₁ }
+        ensures given { lines_in (calls_at result.0) ≡ map string_bytes (texts_taken result.0) }
+        ensures took { S.taken (stage_at result.0) ≡ taken_in (calls_at result.0) }
+        ensures flushed { (before : S) × S.step before (stage_at result.0) (Flush result.1) }
+        ensures found { IsPrefix receipt.old.items (texts_accepted result.0) }
         ensures same { receipt.new ≡ receipt.old }
     {
         let queue = self
             .shared
             .queue
             .look_at_end(&self.rt, &mut passed.taken, receipt);
-        let stage = self.shared.sink.look_by(&mut passed.feed);
-        Look::new(queue, stage)
+        let (stage, flushed) = self.shared.sink.flush_by(&mut passed.feed);
+        (Look::new(queue, stage), flushed)
     }
 }
 

@@ -1,9 +1,11 @@
 //! A queue and the stage that its worker feeds, as proofs see them at one moment.
-ghost use Rattle.std.specs.Prelude.{◌≡◌};
-ghost use Rattle.cadence_flow.specs.RecordedPacker.{packer_of};
+ghost use Rattle.std.specs.Prelude.{◌≡◌, [], OnOk};
+ghost use Rattle.cadence_flow.specs.RecordedPacker.{IsPackerStep, packer_of};
 ghost use Rattle.cadence_queuing.specs.Delivered.{IsPackedOf};
+ghost use Rattle.cadence_stage.specs.Call.{Flush};
 
 use crate::fed::FedStage;
+use cadence_errors::SinkError;
 use cadence_flow::RecordedPacker;
 use cadence_flow::io::PacketWriter;
 use cadence_queue::RecordedQueue;
@@ -22,7 +24,8 @@ where
 }
 
 impl<S: Stage, A: Allocator, J: Names> Look<S, A, J> {
-    ghost use Rattle.cadence_queuing.specs.Look.{queue_at, fed_at};
+    ghost use Rattle.cadence_queuing.specs.Look.{calls_at, fed_at, queue_at, stage_at};
+    ghost use Rattle.cadence_stage.specs.Past.{taken_in};
 
     // Keeps what was seen.
     pub(super) fn new(
@@ -34,6 +37,11 @@ impl<S: Stage, A: Allocator, J: Names> Look<S, A, J> {
     {
         Look { queue, stage }
     }
+
+    /// States that the stage took just those lines that it answered with a number. Does nothing when it is called.
+    pub fn took(&self)
+        ensures { S.taken (stage_at self.now) ≡ taken_in (calls_at self.now) }
+    {}
 }
 
 impl<W: PacketWriter, B: Allocator, A: Allocator, J: Names> Look<RecordedPacker<W, B>, A, J> {
@@ -43,5 +51,12 @@ impl<W: PacketWriter, B: Allocator, A: Allocator, J: Names> Look<RecordedPacker<
     /// packer took, in order. Does nothing when it is called.
     pub fn frames(&self)
         ensures { ∥ IsPackedOf (packer_of (stage_at self.now)) (calls_at self.now) ∥₁ }
+    {}
+
+    /// States that nothing is held, if the flush that came last succeeded. Does nothing when it is called.
+    pub fn holds_nothing(&self, flushed: &Result<(), SinkError>)
+        requires { (before : RecordedPacker W B)
+            × IsPackerStep W.kind W.history before (stage_at self.now) (Flush flushed.now) }
+        ensures { OnOk flushed.now ((packer_of (stage_at self.now)).held ≡ []) }
     {}
 }

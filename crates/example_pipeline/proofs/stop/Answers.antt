@@ -4,4 +4,4 @@ use Rattle.example_pipeline.proofs.stop.Goals as goal
 
 pub returns-clause-given : goal.returns-clause-given
 returns-clause-given g c = λ keeps.
-    ∥∥₁_map c.stop_and_look-look.ensures.delivered (λ all. c.stop_and_look-look.ensures.given ∙ ap (map string_bytes) (all.all keeps))
+    ∥∥₁_map c.stop_and_flush-look.ensures.delivered (λ all. c.stop_and_flush-look.ensures.given ∙ ap (map string_bytes) (all.all keeps))
