@@ -26,6 +26,10 @@ tags_together (d ∷ ds) (t ∷ ts) =
     ap (λ rest. 124 ∷ 35 ∷ rest) (append_assoc (tag_text d) (flat_map comma ds) (flat_map comma (t ∷ ts))
     ∙ ap (λ rest. tag_text d ++ rest) (sym (flat_map-append comma ds (t ∷ ts))))
 
+-- The same for the text of default tags.
+pub tags_known : (text : List ℕ) (ts ds : List Tag) → text ≡ tags_field ds → tags_after text ts ≡ tags_field (ds ++ ts)
+tags_known text ts ds is = ap (λ t. tags_after t ts) is ∙ tags_together ds ts
+
 -- How default tags, the first tag and the others come together.
 pub joined_after : (defaults between between' first others rest : List ℕ) → between' ≡ between
     → defaults ++ ((between' ++ first) ++ (others ++ rest)) ≡ (defaults ++ (between ++ (first ++ others))) ++ rest
@@ -45,14 +49,14 @@ pub event_defaults : (e : Event) (text : List ℕ) (container : Option (List ℕ
 unfolding event_text
 event_defaults e text container ds is =
     ap (λ tags. event_text (record e { container = option_or e.container container }) tags)
-    (ap (λ t. tags_after t e.tags) is ∙ tags_together ds e.tags)
+    (tags_known text e.tags ds is)
 
 pub check_defaults : (c : ServiceCheck) (text : List ℕ) (container : Option (List ℕ)) (ds : List Tag) → text ≡ tags_field ds
     → check_line_with text container c ≡ check_line (check_with ds container c)
 unfolding check_text
 check_defaults c text container ds is =
     ap (λ tags. check_text (record c { container = option_or c.container container }) tags)
-    (ap (λ t. tags_after t c.tags) is ∙ tags_together ds c.tags)
+    (tags_known text c.tags ds is)
 
 -- Without defaults it is the line of the event itself.
 pub event_alone : (e : Event) → event_line_with [] None e ≡ event_line e

@@ -8,6 +8,7 @@ use Rattle.cadence_events.specs.declared.event.Priority.TheVariants.{Low, Normal
 use Rattle.cadence_events.specs.declared.event.Event.{Event as EventParts}
 use Rattle.cadence_events.specs.Escapes.{escaped}
 use Rattle.cadence_events.specs.Fields.{field, seconds_field, tags_after}
+use Rattle.cadence_events.specs.Lined.{Common}
 use Rattle.cadence_text.specs.Line.{container_field, tags_field}
 use Rattle.cadence_text.specs.Metric.{Tag}
 use Rattle.cadence_text.specs.Record.{tag_of}
@@ -40,6 +41,14 @@ event_of e = record {
   tags = map tag_of e.tags.now;
   container = option_copied e.container;
 }
+
+-- the fields that service checks have too
+abbrev pub event_common : Event → Common
+event_common e = record { time = e.time; host = e.host; tags = e.tags; container = e.container }
+
+-- the event with these common fields in place of its own
+abbrev pub event_sharing : Common → Event → Event
+event_sharing c e = record e { time = c.time; host = c.host; tags = c.tags; container = c.container }
 
 -- the word of a priority
 abbrev pub priority_text : Priority → List ℕ

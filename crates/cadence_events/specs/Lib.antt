@@ -1,5 +1,6 @@
 pub mod Escapes
 pub mod Fields
+pub mod Lined
 pub mod Event
 pub mod ServiceCheck
 pub mod Refusals

@@ -6,6 +6,7 @@ use Rattle.cadence_events.specs.declared.service_check.ServiceStatus.TheVariants
 use Rattle.cadence_events.specs.declared.service_check.ServiceCheck.{ServiceCheck as CheckParts}
 use Rattle.cadence_events.specs.Escapes.{escaped_message}
 use Rattle.cadence_events.specs.Fields.{field, seconds_field, tags_after}
+use Rattle.cadence_events.specs.Lined.{Common}
 use Rattle.cadence_text.specs.Line.{container_field, tags_field}
 use Rattle.cadence_text.specs.Metric.{Tag}
 use Rattle.cadence_text.specs.Record.{tag_of}
@@ -31,6 +32,14 @@ check_of c = record {
   container = option_copied c.container;
   message = option_copied c.message;
 }
+
+-- the fields that events have too
+abbrev pub check_common : ServiceCheck → Common
+check_common c = record { time = c.time; host = c.host; tags = c.tags; container = c.container }
+
+-- the service check with these common fields in place of its own
+abbrev pub check_sharing : Common → ServiceCheck → ServiceCheck
+check_sharing c check = record check { time = c.time; host = c.host; tags = c.tags; container = c.container }
 
 -- the digit of a status
 abbrev pub status_text : ServiceStatus → List ℕ

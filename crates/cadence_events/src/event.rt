@@ -2,17 +2,18 @@
 ghost use Rattle.std.specs.Prelude.{◌≡◌, ◌<◌, ◌^◌, [], List, None, IfOk, SomeIff, length, string_bytes};
 ghost use Rattle.std.specs.Option.{option_copied};
 ghost use Rattle.cadence_events.specs.Escapes.{escaped};
-ghost use Rattle.cadence_events.specs.Event.{Event, IsCutByLengths, alert_text, event_fields, event_head, event_line, event_line_with, event_of, event_text, event_with, priority_text};
+ghost use Rattle.cadence_events.specs.Event.{Event, IsCutByLengths, alert_text, event_common, event_fields, event_head, event_line, event_line_with, event_of, event_sharing, event_text, event_with, priority_text};
 ghost use Rattle.cadence_events.specs.Fields.{tags_after};
+ghost use Rattle.cadence_events.specs.Lined.{common_of};
 ghost use Rattle.cadence_events.specs.Refusals.{MakesLine, event_refusal};
 ghost use Rattle.cadence_text.specs.Line.{tags_field};
 ghost use Rattle.cadence_text.specs.Metric.{Tag as MetricTag};
 ghost use Rattle.cadence_value.specs.Takes.{Takes};
 
 use crate::escapes::{escaped_len, push_escaped};
-use crate::fields::{container_or, push_field, push_seconds, push_tags};
+use crate::fields::{push_field, push_seconds, push_tags};
+use crate::lined::{Common, Lined, length_of, line_with};
 use crate::refusal::{LineError, Unfit, any_is_free, tags_are_free};
-use crate::writers::{Lined, length_of, line_of};
 use cadence_text::line::Tag;
 use cadence_value::text::PieceWriter;
 use std::alloc::Allocator;
@@ -142,20 +143,33 @@ impl<'a> Event<'a> {
         }
     }
 
+    // Returns the fields that service checks have too.
+    fn common(&self) -> Common<'a>
+        ensures { common_of result ≡ event_common (event_of self.now) }
+    {
+        Common {
+            time: self.time,
+            host: self.host,
+            tags: self.tags,
+            container: self.container,
+        }
+    }
+
     // Writes the fields of a line, with this text of default tags.
     #[tactic(auto, using(std::proofs::lemmas::Grind::common_steps))]
-    fn push_fields<S: PieceWriter>(&self, line: &mut S, tags: &str)
-        ensures { Takes S.ends_as line.old (event_fields (event_of self.now)
-            (tags_after tags.now (event_of self.now).tags)) line.new }
+    fn push_fields<S: PieceWriter>(&self, line: &mut S, common: &Common<'_>, tags: &str)
+        ensures { Takes S.ends_as line.old
+            (event_fields (event_sharing (common_of common.now) (event_of self.now))
+            (tags_after tags.now (common_of common.now).tags)) line.new }
     {
-        push_seconds(line, self.time);
-        push_field(line, "|h:", self.host);
+        push_seconds(line, common.time);
+        push_field(line, "|h:", common.host);
         push_field(line, "|k:", self.key);
         push_field(line, "|p:", self.priority.map(Priority::text));
         push_field(line, "|s:", self.source);
         push_field(line, "|t:", self.alert.map(AlertType::text));
-        push_tags(line, tags, self.tags);
-        push_field(line, "|c:", self.container);
+        push_tags(line, tags, common.tags);
+        push_field(line, "|c:", common.container);
     }
 
     /// Returns the length of the line in bytes, without making the line: `None` if it passes `usize::MAX`. It takes no
@@ -164,7 +178,7 @@ impl<'a> Event<'a> {
         ensures { SomeIff result (length (event_line (event_of self.now)) < 2 ^ 64)
             (length (event_line (event_of self.now))) }
     {
-        length_of(self, "")
+        length_of(self, &self.common(), "")
     }
 
     /// Returns which text makes `line` refuse the event, or `None` if it accepts all of them. If there are several, it
@@ -172,22 +186,7 @@ impl<'a> Event<'a> {
     pub fn refusal(&self) -> Option<Unfit>
         ensures { result ≡ event_refusal (event_of self.now) }
     {
-        if !any_is_free(self.host) {
-            return Some(Unfit::Host);
-        }
-        if !any_is_free(self.key) {
-            return Some(Unfit::AggregationKey);
-        }
-        if !any_is_free(self.source) {
-            return Some(Unfit::SourceType);
-        }
-        if !tags_are_free(self.tags) {
-            return Some(Unfit::Tags);
-        }
-        if !any_is_free(self.container) {
-            return Some(Unfit::Container);
-        }
-        None
+        self.refusal_with(&self.common())
     }
 
     /// Returns the line, without a newline at its end. It takes memory once, as many bytes as the line has
@@ -225,23 +224,37 @@ impl<'a> Event<'a> {
             ≡ event_line
             (event_with defaults (option_copied container.entry) (event_of self.now)) }
     {
-        if let Some(why) = self.refusal() {
-            return Err(LineError::Unusable(why));
-        }
-        let event = Event {
-            container: container_or(self.container, container),
-            ..*self
-        };
-        Ok(line_of(alloc, &event, tags)?)
+        line_with(alloc, self, &self.common(), tags, container)
     }
 }
 
 impl Lined for Event<'_> {
-    ghost spelled = { λ e tags. event_text (event_of e) (tags_after tags (event_of e).tags) };
+    ghost refused = { λ e common. event_refusal (event_sharing common (event_of e)) };
+
+    ghost spelled = { λ e common tags. event_text (event_sharing common (event_of e)) tags };
+
+    fn refusal_with(&self, common: &Common<'_>) -> Option<Unfit> {
+        if !any_is_free(common.host) {
+            return Some(Unfit::Host);
+        }
+        if !any_is_free(self.key) {
+            return Some(Unfit::AggregationKey);
+        }
+        if !any_is_free(self.source) {
+            return Some(Unfit::SourceType);
+        }
+        if !tags_are_free(common.tags) {
+            return Some(Unfit::Tags);
+        }
+        if !any_is_free(common.container) {
+            return Some(Unfit::Container);
+        }
+        None
+    }
 
     #[tactic(auto, unfolding(crate::specs::Event::event_text))]
-    fn push_to<S: PieceWriter>(&self, line: &mut S, tags: &str) {
+    fn push_to<S: PieceWriter>(&self, line: &mut S, common: &Common<'_>, tags: &str) {
         push_head(line, self.title, self.text);
-        self.push_fields(line, tags);
+        self.push_fields(line, common, tags);
     }
 }

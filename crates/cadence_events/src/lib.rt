@@ -7,19 +7,22 @@
 //!
 //! - `event`: an event, its line and the length of the line
 //! - `service_check`: a service check, its line and the length of the line
+//! - `lined`: what both have in common: optional fields, and how a line is measured and made
 //! - `refusal`: why a line was not made
 //! - `escapes`: newlines in texts, and `m:` in a message
-//! - `fields`: the optional fields that both kinds share
+//! - `fields`: how optional fields are written
 //! - `writers`: what a line is written to, piece by piece
 #![tactic(auto)]
 
 mod escapes;
 mod event;
 mod fields;
+mod lined;
 mod refusal;
 mod service_check;
 mod writers;
 
 pub use event::{AlertType, Event, Priority};
+pub use lined::{Common, Lined, line_with};
 pub use refusal::{LineError, Unfit};
 pub use service_check::{ServiceCheck, ServiceStatus};

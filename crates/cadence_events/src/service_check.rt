@@ -1,16 +1,16 @@
 //! Service checks: the state of a service.
 ghost use Rattle.std.specs.Prelude.{◌≡◌, ◌<◌, ◌^◌, [], List, None, SomeIff, length};
 ghost use Rattle.std.specs.Option.{option_copied};
-ghost use Rattle.cadence_events.specs.Fields.{tags_after};
+ghost use Rattle.cadence_events.specs.Lined.{common_of};
 ghost use Rattle.cadence_events.specs.Refusals.{MakesLine, check_refusal};
-ghost use Rattle.cadence_events.specs.ServiceCheck.{ServiceCheck, check_line, check_line_with, check_of, check_text, check_with, status_text};
+ghost use Rattle.cadence_events.specs.ServiceCheck.{ServiceCheck, check_common, check_line, check_line_with, check_of, check_sharing, check_text, check_with, status_text};
 ghost use Rattle.cadence_text.specs.Line.{tags_field};
 ghost use Rattle.cadence_text.specs.Metric.{Tag as MetricTag};
 ghost use Rattle.cadence_value.specs.Takes.{Takes};
 
-use crate::fields::{container_or, push_field, push_message_field, push_seconds, push_tags};
+use crate::fields::{push_field, push_message_field, push_seconds, push_tags};
+use crate::lined::{Common, Lined, length_of, line_with};
 use crate::refusal::{LineError, Unfit, any_is_free, is_without_bar, tags_are_free};
-use crate::writers::{Lined, length_of, line_of};
 use cadence_settings::text_is_free;
 use cadence_text::line::Tag;
 use cadence_value::text::PieceWriter;
@@ -92,35 +92,32 @@ impl<'a> ServiceCheck<'a> {
         }
     }
 
+    // Returns the fields that events have too.
+    fn common(&self) -> Common<'a>
+        ensures { common_of result ≡ check_common (check_of self.now) }
+    {
+        Common {
+            time: self.time,
+            host: self.host,
+            tags: self.tags,
+            container: self.container,
+        }
+    }
+
     /// Returns the length of the line in bytes, without making the line: `None` if it passes `usize::MAX`. It takes no
     /// memory. It is the length also if `line` would refuse the service check.
     pub fn line_len(&self) -> Option<usize>
         ensures { SomeIff result (length (check_line (check_of self.now)) < 2 ^ 64)
             (length (check_line (check_of self.now))) }
     {
-        length_of(self, "")
+        length_of(self, &self.common(), "")
     }
 
     /// Returns which text can't stand in the line, if there is one: the first one in the order of the line.
     pub fn refusal(&self) -> Option<Unfit>
         ensures { result ≡ check_refusal (check_of self.now) }
     {
-        if !text_is_free(self.name) {
-            return Some(Unfit::Name);
-        }
-        if !any_is_free(self.host) {
-            return Some(Unfit::Host);
-        }
-        if !tags_are_free(self.tags) {
-            return Some(Unfit::Tags);
-        }
-        if !any_is_free(self.container) {
-            return Some(Unfit::Container);
-        }
-        if !is_without_bar(self.message) {
-            return Some(Unfit::Message);
-        }
-        None
+        self.refusal_with(&self.common())
     }
 
     /// Returns the line, without a newline at its end. It takes memory once, as many bytes as the line has
@@ -155,30 +152,44 @@ impl<'a> ServiceCheck<'a> {
             ≡ check_line
             (check_with defaults (option_copied container.entry) (check_of self.now)) }
     {
-        if let Some(why) = self.refusal() {
-            return Err(LineError::Unusable(why));
-        }
-        let check = ServiceCheck {
-            container: container_or(self.container, container),
-            ..*self
-        };
-        Ok(line_of(alloc, &check, tags)?)
+        line_with(alloc, self, &self.common(), tags, container)
     }
 }
 
 impl Lined for ServiceCheck<'_> {
-    ghost spelled = { λ c tags. check_text (check_of c) (tags_after tags (check_of c).tags) };
+    ghost refused = { λ c common. check_refusal (check_sharing common (check_of c)) };
+
+    ghost spelled = { λ c common tags. check_text (check_sharing common (check_of c)) tags };
+
+    fn refusal_with(&self, common: &Common<'_>) -> Option<Unfit> {
+        if !text_is_free(self.name) {
+            return Some(Unfit::Name);
+        }
+        if !any_is_free(common.host) {
+            return Some(Unfit::Host);
+        }
+        if !tags_are_free(common.tags) {
+            return Some(Unfit::Tags);
+        }
+        if !any_is_free(common.container) {
+            return Some(Unfit::Container);
+        }
+        if !is_without_bar(self.message) {
+            return Some(Unfit::Message);
+        }
+        None
+    }
 
     #[tactic(auto, using(std::proofs::lemmas::Grind::common_steps), unfolding(crate::specs::ServiceCheck::check_text))]
-    fn push_to<S: PieceWriter>(&self, line: &mut S, tags: &str) {
+    fn push_to<S: PieceWriter>(&self, line: &mut S, common: &Common<'_>, tags: &str) {
         line.take_piece("_sc|");
         line.take_piece(self.name);
         line.take_byte(b'|');
         line.take_piece(self.status.text());
-        push_seconds(line, self.time);
-        push_field(line, "|h:", self.host);
-        push_tags(line, tags, self.tags);
-        push_field(line, "|c:", self.container);
+        push_seconds(line, common.time);
+        push_field(line, "|h:", common.host);
+        push_tags(line, tags, common.tags);
+        push_field(line, "|c:", common.container);
         push_message_field(line, self.message);
     }
 }

@@ -1,22 +1,11 @@
 //! What a line is written to, piece by piece: a counter of bytes, which measures the line, and a text with just that
 //! much room. A `PieceWriter` can't refuse a piece. So a piece that is too long for the room empties the text, and
 //! the function that reserves the room proves that this never happens.
-ghost use Rattle.std.specs.Prelude.{◌≡◌, ◌+◌, ◌↔◌, ◌≤◌, ◌<◌, ◌-◌, ◌^◌, List, ℕ, [], IfOk, IsTrue, SomeIff, length, min, string_bytes};
+ghost use Rattle.std.specs.Prelude.{◌≡◌, ◌+◌, ◌↔◌, ◌≤◌, ◌-◌, ◌^◌, [], IfOk, IsTrue, length, min, string_bytes};
 ghost use Rattle.std.specs.String.{string_capacity};
-ghost use Rattle.cadence_value.specs.Takes.{Takes};
 
 use cadence_value::text::{ByteWriter, PieceWriter};
 use std::alloc::{AllocError, Allocator};
-
-/// What has a line: an event or a service check.
-pub(crate) trait Lined {
-    ghost spelled: { Self → List ℕ → List ℕ };
-
-    // Writes the line, which is never empty. Its own tags come after this text of default tags.
-    fn push_to<S: PieceWriter>(&self, line: &mut S, tags: &str)
-        ensures taken { Takes S.ends_as line.old (Self.spelled self.now tags.now) line.new }
-        ensures some { 0 < length (Self.spelled self.now tags.now) };
-}
 
 /// A `PieceWriter` that only counts the bytes. It stops at `u128::MAX`.
 #[derive(Clone, Copy)]
@@ -25,8 +14,15 @@ pub(crate) struct ByteCounter {
 }
 
 impl ByteCounter {
+    // Returns a counter that has counted no bytes.
+    pub(crate) fn new() -> ByteCounter
+        ensures { result.length ≡ 0 }
+    {
+        ByteCounter { length: 0 }
+    }
+
     // Returns the number of bytes.
-    fn length(&self) -> u128
+    pub(crate) fn length(&self) -> u128
         ensures { result ≡ self.now.length }
     {
         self.length
@@ -65,12 +61,19 @@ pub(crate) struct LineText<A: Allocator> {
 
 impl<A: Allocator> LineText<A> {
     // Returns an empty text with room for `length` bytes. It takes memory once, and only that much.
-    fn with_room(alloc: A, length: usize) -> Result<LineText<A>, AllocError>
+    pub(crate) fn with_room(alloc: A, length: usize) -> Result<LineText<A>, AllocError>
         ensures empty { IfOk result (λ t. string_bytes t.text ≡ []) }
         ensures end { IfOk result (λ t. t.end ≡ length) }
     {
         let text = String::with_capacity(alloc, length)?;
         Ok(LineText { text, end: length })
+    }
+
+    // Returns the text.
+    pub(crate) fn into_text(self) -> String<A>
+        ensures { result ≡ self.text }
+    {
+        self.text
     }
 
     // Returns whether more bytes fit the room.
@@ -114,39 +117,4 @@ impl<A: Allocator> PieceWriter for LineText<A> {
             unreachable!()
         };
     }
-}
-
-// Returns the length of a line in bytes, or `u128::MAX` if it passes that.
-fn counted<L: Lined>(source: &L, tags: &str) -> u128
-    ensures { result ≡ min (length (L.spelled source.now tags.now)) (2 ^ 128 - 1) }
-{
-    let mut counter = ByteCounter { length: 0 };
-    source.push_to(&mut counter, tags);
-    counter.length()
-}
-
-/// Returns the length of a line with this text of default tags in bytes, or `None` if it passes `usize::MAX`. It takes no
-/// memory.
-pub(crate) fn length_of<L: Lined>(source: &L, tags: &str) -> Option<usize>
-    ensures { SomeIff result (length (L.spelled source.now tags.now) < 2 ^ 64)
-        (length (L.spelled source.now tags.now)) }
-{
-    usize::try_from(counted(source, tags)).ok()
-}
-
-/// Returns a line with this text of default tags. It takes memory once, as many bytes as the line has. The only error is
-/// that memory ran out, or that the length passes `usize::MAX`.
-pub(crate) fn line_of<L: Lined, A: Allocator>(
-    alloc: A,
-    source: &L,
-    tags: &str,
-) -> Result<String<A>, AllocError>
-    ensures { IfOk result (λ text. string_bytes text ≡ L.spelled source.now tags.now) }
-{
-    let Some(length) = length_of(source, tags) else {
-        return Err(AllocError);
-    };
-    let mut line = LineText::with_room(alloc, length)?;
-    source.push_to(&mut line, tags);
-    Ok(line.text)
 }
