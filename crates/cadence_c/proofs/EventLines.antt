@@ -10,7 +10,7 @@ use Rattle.cadence_c.specs.Events.{MakesEvent}
 use Rattle.cadence_c.specs.Status.{CADENCE_FULL, CADENCE_OK, code_of_unfit, error_of}
 use Rattle.cadence_c.specs.declared.status.StatusError.{StatusError}
 
--- The statuses of texts that can't stand in a line come after all others.
+-- A status that names a text is at least 10, and each other status is less.
 late : (why : Unfit) → 10 ≤ code_of_unfit why
 late unfit.Name = omega arith
 late unfit.Host = omega arith

@@ -180,7 +180,8 @@ fn check_of<'a>(check: &CCheck<'a>, tags: &'a [Tag<'a>]) -> Result<ServiceCheck<
 }
 
 // Returns the line of an event with these settings. The errors are `NotUtf8` for a text of the settings or the event,
-// `Invalid` for its priority or its alert type, `Unfit` for a text that can't stand in the line, and `NoMemory`.
+// `Invalid` for its priority or its alert type, `Unfit` with the first text of the event that has a separator (its title
+// and its text may have any byte), and `NoMemory`.
 fn line_of_event(
     alloc: Global,
     settings: &CSettings<'_>,
@@ -199,7 +200,8 @@ fn line_of_event(
 }
 
 // Returns the line of a service check with these settings. The errors are `NotUtf8` for a text of the settings or the
-// service check, `Invalid` for its status, `Unfit` for a text that can't stand in the line, and `NoMemory`.
+// service check, `Invalid` for its status, `Unfit` with the first text of the service check that has a separator, or a bar
+// if it is the message, and `NoMemory`.
 fn line_of_check(
     alloc: Global,
     settings: &CSettings<'_>,
@@ -217,8 +219,9 @@ fn line_of_check(
     Ok(check.line_with(alloc, texts.tags, texts.container)?)
 }
 
-/// Keeps the line of an event, with the default tags and the default container of the settings. A text that can't stand
-/// in the line is refused, also if the settings are not strict.
+/// Keeps the line of an event, with the default tags and the default container of the settings. An event that has a text
+/// with a separator is refused, also if the settings are not strict. Its title and its text may have any byte, and the texts
+/// of the settings are not tested.
 #[unsafe(no_mangle)]
 pub extern "C" fn cadence_event(
     alloc: Global,
@@ -236,8 +239,9 @@ pub extern "C" fn cadence_event(
     }
 }
 
-/// Keeps the line of a service check, with the default tags and the default container of the settings. A text that can't
-/// stand in the line is refused, also if the settings are not strict.
+/// Keeps the line of a service check, with the default tags and the default container of the settings. A service check that
+/// has a text with a separator, or a message with a bar, is refused, also if the settings are not strict. The texts of the
+/// settings are not tested.
 #[unsafe(no_mangle)]
 pub extern "C" fn cadence_service_check(
     alloc: Global,
