@@ -1,21 +1,21 @@
--- The events and service checks that a client sends, and what the calls that send them may return. A builder has what is
--- to be sent so far, or nothing if memory ran out for a tag.
+-- The events and service checks that a client sends, and what the calls that send them may return.
 use Rattle.std.specs.Prelude.{◌≡◌, ⊤, ℕ, Option, None, Some, IfNone, IfSome, List, [], ◌∷◌, ◌++◌, Result, Ok, Err}
 use Rattle.std.specs.Option.{option_map}
 use Rattle.cadence_errors.specs.declared.MetricError.{MetricError}
 use Rattle.cadence_errors.specs.Errors.{IsInvalid, out_of_memory}
 use Rattle.cadence_events.specs.declared.refusal.Unfit.{Unfit}
 use Rattle.cadence_events.specs.declared.service_check.ServiceStatus.{ServiceStatus}
-use Rattle.cadence_events.specs.Event.{Event, event_line}
-use Rattle.cadence_events.specs.Refusals.{check_refusal, event_refusal}
-use Rattle.cadence_events.specs.ServiceCheck.{ServiceCheck, check_line}
+use Rattle.cadence_events.specs.Event.{Event}
+use Rattle.cadence_events.specs.Lined.{Common, or_container}
+use Rattle.cadence_events.specs.ServiceCheck.{ServiceCheck}
 use Rattle.cadence_settings.specs.Settings.{Settings}
+use Rattle.cadence_text.specs.Line.{tags_field}
 use Rattle.cadence_text.specs.Metric.{Tag}
 use Rattle.cadence.specs.Sending.{SinkResults, SendsLine}
 
--- the event of a call without options: it has the default tags and the default container, and no other field
-abbrev pub plain_event : Settings → List ℕ → List ℕ → Event
-plain_event s title text = record {
+-- the event of a call without options
+abbrev pub plain_event : List ℕ → List ℕ → Event
+plain_event title text = record {
   title = title;
   text = text;
   time = None;
@@ -24,42 +24,54 @@ plain_event s title text = record {
   priority = None;
   source = None;
   alert = None;
-  tags = s.tags;
-  container = s.container;
+  tags = [];
+  container = None;
 }
 
--- the service check of a call without options: it has the default tags and the default container, and no other field
-abbrev pub plain_check : Settings → List ℕ → ServiceStatus → ServiceCheck
-plain_check s name status = record {
+-- the service check of a call without options
+abbrev pub plain_check : List ℕ → ServiceStatus → ServiceCheck
+plain_check name status = record {
   name = name;
   status = status;
   time = None;
   host = None;
-  tags = s.tags;
-  container = s.container;
+  tags = [];
+  container = None;
   message = None;
 }
 
--- the event with one more tag, at the end
-abbrev pub with_event_tag : Tag → Event → Event
-with_event_tag tag e = record e { tags = e.tags ++ tag ∷ [] }
+-- the common fields with one more tag, at the end
+abbrev pub with_tag : Tag → Common → Common
+with_tag tag c = record c { tags = c.tags ++ tag ∷ [] }
 
--- the service check with one more tag, at the end
-abbrev pub with_check_tag : Tag → ServiceCheck → ServiceCheck
-with_check_tag tag c = record c { tags = c.tags ++ tag ∷ [] }
+-- What a builder has so far: the event or service check itself, the common fields that its line has in place of its
+-- own, or none if memory ran out for a tag, and the client.
+pub record Built (E C : Type 0) : Type 0 where
+  pub own : E
+  pub common : Option Common
+  pub client : C
 
--- the event of a builder, changed so, if there is one
-abbrev pub changed_event : (Event → Event) → Option Event → Option Event
-changed_event change event = option_map change event
+module _ {E C : Type 0} where
+  -- what a builder has, with the event or service check itself changed so
+  abbrev pub with_own : (E → E) → Built E C → Built E C
+  with_own change b = record b { own = change b.own }
 
--- the service check of a builder, changed so, if there is one
-abbrev pub changed_check : (ServiceCheck → ServiceCheck) → Option ServiceCheck → Option ServiceCheck
-changed_check change check = option_map change check
+  -- what a builder has, with the common fields changed so, if there are any
+  abbrev pub with_common : (Common → Common) → Built E C → Built E C
+  with_common change b = record b { common = option_map change b.common }
 
--- What a builder has was changed so from `old` to `new`, or memory ran out and it has nothing. If it had nothing, it has
--- nothing.
-abbrev pub MayChange : {E : Type 0} → (E → E) → Option E → Option E → Type 0
-MayChange change old new = IfSome new (λ e. option_map change old ≡ Some e)
+  -- A builder begins with this event or service check, without common fields, and sends by this client. Or memory ran
+  -- out.
+  pub record IsBegun (own : E) (client : C) (b : Built E C) : Type 0 where
+    pub begins : b.own ≡ own
+    pub bare : IfSome b.common (λ c. c ≡ record { time = None; host = None; tags = []; container = None })
+    pub sends_by : b.client ≡ client
+
+  -- The builder has one more tag, at the end. Or memory ran out, now or before.
+  pub record AddsTag (tag : Tag) (old new : Built E C) : Type 0 where
+    pub own : new.own ≡ old.own
+    pub common : IfSome new.common (λ c. option_map (with_tag tag) old.common ≡ Some c)
+    pub client : new.client ≡ old.client
 
 -- A call sent this line, if there is no cause to refuse it: it returned what the sink may return for the line, or memory
 -- ran out. If there is a cause, the result is an invalid input.
@@ -68,13 +80,11 @@ SendsFit may None line r = SendsLine may (λ _ _. ⊤) line r
 SendsFit may (Some why) line (Ok u) = ⊥
 SendsFit may (Some why) line (Err e) = IsInvalid e
 
--- A call sent the line of this event, or refused the event. If there is no event, because memory ran out before, the
--- result says so.
-pub record SendsEvent {U : Type 0} (may : SinkResults) (event : Option Event) (result : Result U MetricError) : Type 0 where
-  pub sent : IfSome event (λ e. SendsFit may (event_refusal e) (event_line e) result)
-  pub failed : IfNone event (result ≡ Err out_of_memory)
-
--- the same for a service check
-pub record SendsCheck {U : Type 0} (may : SinkResults) (check : Option ServiceCheck) (result : Result U MetricError) : Type 0 where
-  pub sent : IfSome check (λ c. SendsFit may (check_refusal c) (check_line c) result)
-  pub failed : IfNone check (result ≡ Err out_of_memory)
+-- A call sent what a builder has, or refused it. The line has the default tags of the client and then the builder's own,
+-- and the default container of the client if the builder has none. Only the texts of the builder are tested. If there
+-- are no common fields, because memory ran out before, the result says so.
+pub record SendsBuilt {E C U : Type 0} (settings : C → Settings) (may : C → SinkResults) (refused : E → Common → Option Unfit)
+    (spelled : E → Common → List ℕ → List ℕ) (b : Built E C) (result : Result U MetricError) : Type 0 where
+  pub sent : IfSome b.common (λ c. SendsFit (may b.client) (refused b.own c)
+      (spelled b.own (or_container (settings b.client).container c) (tags_field ((settings b.client).tags ++ c.tags))) result)
+  pub failed : IfNone b.common (result ≡ Err out_of_memory)

@@ -1,20 +1,23 @@
 -- What contracts show of a client, of its builder and of the builders of metrics, events and service checks, whose fields
 -- are private.
-use Rattle.std.specs.Prelude.{◌≡◌, Bool, IsTrue, Option, Result, Ok, Err, map}
+use Rattle.std.specs.Prelude.{◌≡◌, Bool, IsTrue, Result, Ok, Err, map}
 use Rattle.std.specs.Option.{option_map}
 use Rattle.std.specs.declared.dyn_box.DynBox.{DynBox}
 use Rattle.cadence_errors.specs.declared.MetricError.{MetricError}
 use Rattle.cadence_events.specs.Event.{Event, event_of}
+use Rattle.cadence_events.specs.Lined.{common_of}
 use Rattle.cadence_events.specs.ServiceCheck.{ServiceCheck, check_of}
+use Rattle.cadence_events.specs.declared.event.Event.{Event as EventParts}
+use Rattle.cadence_events.specs.declared.service_check.ServiceCheck.{ServiceCheck as CheckParts}
 use Rattle.cadence_text.specs.Draft.{Draft}
 use Rattle.cadence_text.specs.Metric.{Tag}
 use Rattle.cadence_text.specs.Record.{tag_of}
 use Rattle.cadence.specs.declared.client.builder.MetricBuilder.{MetricBuilder}
-use Rattle.cadence.specs.declared.client.service_check_builder.ServiceCheckBuilder.{ServiceCheckBuilder}
-use Rattle.cadence.specs.declared.client.event_builder.EventBuilder.{EventBuilder}
+use Rattle.cadence.specs.declared.client.lined_builder.LinedBuilder.{LinedBuilder}
 use Rattle.cadence.specs.declared.client.handler.BoxedErrorHandler.{BoxedErrorHandler}
 use Rattle.cadence.specs.declared.client.statsd_client.StatsdClient.{StatsdClient}
 use Rattle.cadence.specs.declared.client.client_builder.StatsdClientBuilder.{StatsdClientBuilder}
+use Rattle.cadence.specs.Events.{Built}
 use Rattle.cadence_settings.specs.Settings.{Settings, FailsFor, allows_tag, with_default_tag}
 
 -- A builder has settings, or the first error of the calls that made them. A call changes them: an error stays. If the
@@ -34,22 +37,27 @@ module _ {T C Z : Type 0} where
   abbrev pub backend_of : MetricBuilder T C Z → C
   backend_of b = b.client.now
 
+module _ {L C Z : Type 0} where
+  -- what the builder of an event or of a service check has so far. `own_of` says what the event or service check is.
+  abbrev pub built_as : {E : Type 0} → (L → E) → LinedBuilder L C Z → Built E C
+  built_as own_of b = record {
+    own = own_of b.own;
+    common = option_map (λ tags. record (common_of b.common) { tags = map tag_of tags.items }) b.tags;
+    client = b.client.now;
+  }
+
+  -- the same, with the event or service check as it is in Rattle
+  abbrev pub built : LinedBuilder L C Z → Built L C
+  built b = built_as (λ own. own) b
+
 module _ {C Z : Type 0} where
-  -- the event that a builder has so far, or none if memory ran out for a tag
-  abbrev pub event_of_builder : EventBuilder C Z → Option Event
-  event_of_builder b = option_map (λ tags. record (event_of b.event) { tags = map tag_of tags.items }) b.tags
+  -- what the builder of an event has so far
+  abbrev pub built_event : LinedBuilder EventParts C Z → Built Event C
+  built_event b = built_as event_of b
 
-  -- the client by which a builder of an event sends
-  abbrev pub client_of_event : EventBuilder C Z → C
-  client_of_event b = b.client.now
-
-  -- the service check that a builder has so far, or none if memory ran out for a tag
-  abbrev pub check_of_builder : ServiceCheckBuilder C Z → Option ServiceCheck
-  check_of_builder b = option_map (λ tags. record (check_of b.check) { tags = map tag_of tags.items }) b.tags
-
-  -- the client by which a builder of a service check sends
-  abbrev pub client_of_check : ServiceCheckBuilder C Z → C
-  client_of_check b = b.client.now
+  -- what the builder of a service check has so far
+  abbrev pub built_check : LinedBuilder CheckParts C Z → Built ServiceCheck C
+  built_check b = built_as check_of b
 
 module _ {Z Y : Type 0} {G : Y → Type 0} {g : _} where
   -- the boxed closure that a handler stores

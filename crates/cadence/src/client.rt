@@ -1,12 +1,14 @@
 //! The client (`statsd_client`) and its builder (`client_builder`), the traits of its metrics (`traits`, all as one in
 //! `metric_client`) and their builder (`builder`), its events (`event_builder`) and service checks
-//! (`service_check_builder`), how a metric is sent (`backend`), receivers of errors (`handler`).
+//! (`service_check_builder`) and what both share (`lined_builder`), how a metric is sent (`backend`), receivers of errors
+//! (`handler`).
 
 mod backend;
 mod builder;
 mod client_builder;
 mod event_builder;
 mod handler;
+mod lined_builder;
 mod metric_client;
 mod service_check_builder;
 mod statsd_client;
@@ -19,6 +21,7 @@ pub use cadence_settings::{ClientSettings, DraftError, Separator};
 pub use client_builder::StatsdClientBuilder;
 pub use event_builder::EventBuilder;
 pub use handler::{BoxedErrorHandler, BoxedHandler, ErrorHandler, NopErrorHandler};
+pub use lined_builder::LinedBuilder;
 pub use metric_client::MetricClient;
 pub use service_check_builder::ServiceCheckBuilder;
 pub use statsd_client::{BoxedSink, StatsdClient};

@@ -4,7 +4,7 @@
 //! - `sinks`: all sinks, and their builders; `ready`: sinks over UDP and a client over one, ready made
 //! - `types`: errors and metric types; `value`, `decimal`, `line`: numbers, and the line of a metric
 //! - `stats`: counts of what was sent; `io`: the packer; `queue`: queues; `resolve`: addresses of hosts
-//! - `pipeline`: a queue of which is proved what its threads did
+//! - `pipeline`: a queue, and logs that say what its threads did
 //! - `ext`: what a service needs for values and metrics of its own types
 //! - `schedule`: calls as data, and the proved run of a client; `laws`: facts for proofs to cite
 #![tactic(auto)]

@@ -4,10 +4,10 @@
 mod record;
 mod strict;
 
-ghost use Rattle.std.specs.Prelude.{◌≡◌, IfOk, IfErr, IfSome, IsTrue, OnErr, OnOk, Some, string_bytes};
+ghost use Rattle.std.specs.Prelude.{◌≡◌, [], IfOk, IfErr, IfSome, IsTrue, OnErr, OnOk, Some, string_bytes};
 ghost use Rattle.std.specs.Option.{option_copied};
 ghost use Rattle.cadence_text.specs.Draft.{draft_of};
-ghost use Rattle.cadence_text.specs.Line.{line_of};
+ghost use Rattle.cadence_text.specs.Line.{line_of, tags_field};
 ghost use Rattle.cadence_text.specs.Representable.{IsRepresentable};
 ghost use Rattle.cadence_value.specs.Values.{numbers_of};
 ghost use Rattle.cadence_settings.specs.Settings.{client_prefix, without_dots, settings_of, with_default_tag, with_default_container};
@@ -19,7 +19,7 @@ ghost use Rattle.cadence_settings.specs.CallData.{LineFails};
 
 use super::call::{Call, choose_all};
 use cadence_errors::{MetricError, MetricResult};
-use cadence_text::line::{DraftLine, Head, MetricType, OwnedTag, TagsText, lend_tag};
+use cadence_text::line::{DraftLine, Head, MetricType, OwnedTag, Tag, TagsText, lend_tag};
 use cadence_value::value::MetricValue;
 use std::alloc::{AllocError, Allocator, Global};
 use std::marker::Model;
@@ -171,6 +171,21 @@ impl<A: Allocator + Clone> ClientSettings<A> {
         ensures { option_copied result ≡ (self.now).container }
     {
         self.container.as_ref().map(|id| id.as_str())
+    }
+
+    /// Returns the text of the default tags as a line has it, such as `|#env:prod,beta`. It is empty if there are none.
+    pub fn default_tags_text(&self) -> &str
+        ensures { result.now ≡ tags_field (self.now).tags }
+    {
+        self.text.as_str()
+    }
+
+    /// Returns an empty list of tags, which takes its memory where the settings take theirs. It takes none before a tag
+    /// is added. The only error is that memory for a copy of the allocator ran out.
+    pub fn empty_tags<'t>(&self) -> Result<Vec<Tag<'t>, A>, AllocError>
+        ensures { IfOk result (λ tags. tags.items ≡ []) }
+    {
+        Ok(Vec::new(self.tags.allocator().clone()?))
     }
 
     /// Returns the draft of the line of a call without options. The draft begins with the prefix and has the default

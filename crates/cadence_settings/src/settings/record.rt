@@ -42,9 +42,9 @@ impl<A: Allocator + Clone> ClientSettings<A> {
         self.record_with(key, kind, value)
     }
 
-    /// Returns the default tags in their order, as tags that borrow the texts of the settings. It takes memory for one
-    /// list, and only if there are default tags. The only error is that memory ran out.
-    pub fn default_tags(&self) -> Result<Vec<Tag<'_>, A>, AllocError>
+    // Returns the default tags in their order, as tags that borrow the texts of the settings. It takes memory for one
+    // list, and only if there are default tags. The only error is that memory ran out.
+    fn default_tags(&self) -> Result<Vec<Tag<'_>, A>, AllocError>
         ensures { IfOk result (λ tags. map tag_of tags.items ≡ (self.now).tags) }
     {
         lend_tags(self.tags.allocator().clone()?, &self.tags)
