@@ -1,7 +1,9 @@
 -- Start with `PacketRead`, where a packet is read, and go down: `LineParts` has the fields of a line, `FieldsRead` the
 -- values in them, and `Pieces` the texts between marks. `RunRead` reads the packets of a run, one after the other.
+-- `Cuts`, `OwnLines` and `EventLines` are about lines that are cut and not read.
 pub mod Cuts
 pub mod OwnLines
+pub mod EventLines
 pub mod Pieces
 pub mod LineParts
 pub mod FieldsRead

@@ -1,4 +1,5 @@
 pub mod Cuts
+pub mod EventLines
 pub mod Faults
 pub mod Listed
 pub mod LineTexts

@@ -2,6 +2,7 @@
 ghost use Rattle.std.specs.Prelude.{◌≡◌, ◌≢◌, ◌++◌, ◌↔◌, All, IsTrue};
 ghost use Rattle.std.specs.Option.{option_map};
 ghost use Rattle.cadence_value.specs.Finds.{Finds};
+ghost use Rattle.cadence_read.specs.EventLines.{CutsEventLines};
 ghost use Rattle.cadence_read.specs.Cuts.{AreFields, CutsOwnLines, IsCut, IsEvent, IsFound, IsServiceCheck, parts_of};
 
 use crate::splitting::split_first;
@@ -103,4 +104,10 @@ pub fn cut_line(line: &[u8]) -> AnyLine<'_>
 /// texts. Proofs cite it. The function does nothing when it runs.
 pub fn cuts_own_lines()
     ensures { CutsOwnLines }
+{}
+
+/// States that the lines of events and of service checks that this library's clients send are cut as events and as service
+/// checks. Proofs cite it. The function does nothing when it runs.
+pub fn cuts_event_lines()
+    ensures { CutsEventLines }
 {}

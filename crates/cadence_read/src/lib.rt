@@ -15,7 +15,7 @@ mod line;
 mod packet;
 mod splitting;
 
-pub use any_line::{AnyLine, MetricParts, cut_line, cuts_own_lines};
+pub use any_line::{AnyLine, MetricParts, cut_line, cuts_event_lines, cuts_own_lines};
 pub use fault::{NotMetrics, ReadFault};
 pub use line::read_line;
 pub use packet::{read_packet, read_run};
