@@ -22,7 +22,7 @@ use Rattle.cadence_aggregated.specs.PackedRuns.{KeepsKindAndFormat, MovesPacker,
 use Rattle.cadence_aggregated.specs.Sendings.{Sending, flushed}
 use Rattle.cadence_aggregated.specs.Steps.{SumsTurn, accepted_in_turn}
 use Rattle.cadence_aggregated.specs.declared.packer_sink.PackerSink.{PackerSink}
-use Rattle.cadence_aggregated.specs.declared.sums.Sums.{Sums}
+use Rattle.cadence_aggregated.specs.declared.packed_sums.PackedSums.{PackedSums}
 
 -- A sink that refused no line has no error.
 pub none_refused : (o : Option SinkError) → refused_count o ≡ 0 → o ≡ None
@@ -39,7 +39,7 @@ fails_by asked fault.OutOfMemory (Some x) e count cause writes = absurd (omega (
 
 module _ {P A : Type 0} (kind : P → WriterKind) (history : P → PacketHistory) where
   -- A turn that leaves the aggregator and the packer asked nothing.
-  pub idle : (hand : Option (List ℕ)) (old : Sums P A) (t : Turn A) (new : Sums P A)
+  pub idle : (hand : Option (List ℕ)) (old : PackedSums P A) (t : Turn A) (new : PackedSums P A)
       → accepted_in_turn t hand ≡ [] → Asks t [] → new ≡ old → SumsTurn kind history hand old t new
   idle hand old t new none asks same = subst (λ s. SumsTurn kind history hand old t s) (sym same) (record {
     asked = [];
@@ -47,7 +47,7 @@ module _ {P A : Type 0} (kind : P → WriterKind) (history : P → PacketHistory
     packs = packs_none kind history old.sink;
     said = [];
     says = subst (λ ls. AllZip LineSays ls []) (sym none) tt;
-    summary = same_of _ _ (append-nil (sent_by old.sink ++ held old.aggregator));
+    summary = same_of _ _ (append-nil (sent_by old.sink ++ held old.lines.aggregator));
   })
 
   -- a call that began with no error asked this
@@ -90,7 +90,7 @@ module _ {P A : Type 0} (kind : P → WriterKind) (history : P → PacketHistory
         sends = (packed_state history r.packing, send, refl);
       })
 
-  module _ (old new : Sums P A) (b s : PackerSink P A) (began : b ≡ record old.sink { refused = None }) (leads : LeadsSink kind history b s) where
+  module _ (old new : PackedSums P A) (b s : PackerSink P A) (began : b ≡ record old.sink { refused = None }) (leads : LeadsSink kind history b s) where
     begun : Called old.sink s
     begun = called old.sink b s began leads
 
@@ -102,7 +102,7 @@ module _ {P A : Type 0} (kind : P → WriterKind) (history : P → PacketHistory
 
     -- A line was added.
     pub added : (line : List ℕ) (n : ℕ) (said : Sample) → LineSays line said → refused_count s.refused ≡ refused_count b.refused
-        → IsSummary ((sent_by b ++ held old.aggregator) ++ said ∷ []) (sent_by s ++ held new.aggregator) → new.sink ≡ s
+        → IsSummary ((sent_by b ++ held old.lines.aggregator) ++ said ∷ []) (sent_by s ++ held new.lines.aggregator) → new.sink ≡ s
         → SumsTurn kind history (Some line) old (step.Hand, reply.Handed (Ok n)) new
     added line n said says count sum same = record {
       asked = begun.asked;
@@ -110,8 +110,8 @@ module _ {P A : Type 0} (kind : P → WriterKind) (history : P → PacketHistory
       packs = subst (λ x. SinkPacks kind history old.sink x begun.asked) (sym same) begun.packs;
       said = said ∷ [];
       says = (says, tt);
-      summary = subst (λ x. IsSummary ((sent_by old.sink ++ held old.aggregator) ++ said ∷ []) (sent_by x ++ held new.aggregator)) (sym same)
-          (subst (λ xs. IsSummary ((xs ++ held old.aggregator) ++ said ∷ []) (sent_by s ++ held new.aggregator)) sent_before sum);
+      summary = subst (λ x. IsSummary ((sent_by old.sink ++ held old.lines.aggregator) ++ said ∷ []) (sent_by x ++ held new.lines.aggregator)) (sym same)
+          (subst (λ xs. IsSummary ((xs ++ held old.lines.aggregator) ++ said ∷ []) (sent_by s ++ held new.lines.aggregator)) sent_before sum);
     }
 
     module _ (why : Fault) (e : SinkError) (cause : IsCause why s.refused e)
@@ -123,21 +123,21 @@ module _ {P A : Type 0} (kind : P → WriterKind) (history : P → PacketHistory
       packs_failed : SinkPacks kind history old.sink new.sink begun.asked
       packs_failed = without_error old.sink s new.sink begun.asked taken begun.packs
 
-      sum_failed : IsSummary (sent_by b ++ held old.aggregator) (sent_by s ++ held new.aggregator)
-          → IsSummary ((sent_by old.sink ++ held old.aggregator) ++ []) (sent_by new.sink ++ held new.aggregator)
+      sum_failed : IsSummary (sent_by b ++ held old.lines.aggregator) (sent_by s ++ held new.lines.aggregator)
+          → IsSummary ((sent_by old.sink ++ held old.lines.aggregator) ++ []) (sent_by new.sink ++ held new.lines.aggregator)
       sum_failed sum =
-          subst (λ xs. IsSummary xs (sent_by new.sink ++ held new.aggregator)) (sym (append-nil (sent_by old.sink ++ held old.aggregator)))
-          (subst (λ xs. IsSummary (sent_by old.sink ++ held old.aggregator) (xs ++ held new.aggregator)) (sym (ap (λ (x : PackerSink P A). sent_by x) taken))
-          (subst (λ xs. IsSummary (xs ++ held old.aggregator) (sent_by s ++ held new.aggregator)) sent_before sum))
+          subst (λ xs. IsSummary xs (sent_by new.sink ++ held new.lines.aggregator)) (sym (append-nil (sent_by old.sink ++ held old.lines.aggregator)))
+          (subst (λ xs. IsSummary (sent_by old.sink ++ held old.lines.aggregator) (xs ++ held new.lines.aggregator)) (sym (ap (λ (x : PackerSink P A). sent_by x) taken))
+          (subst (λ xs. IsSummary (xs ++ held old.lines.aggregator) (sent_by s ++ held new.lines.aggregator)) sent_before sum))
 
       -- A line was not added.
-      pub not_added : (hand : Option (List ℕ)) → IsSummary (sent_by b ++ held old.aggregator) (sent_by s ++ held new.aggregator)
+      pub not_added : (hand : Option (List ℕ)) → IsSummary (sent_by b ++ held old.lines.aggregator) (sent_by s ++ held new.lines.aggregator)
           → SumsTurn kind history hand old (step.Hand, reply.Handed (Err e)) new
       not_added hand sum =
           record { asked = begun.asked; asks = asks_failed; packs = packs_failed; said = []; says = tt; summary = sum_failed sum }
 
       -- A flush failed before the packer was flushed.
-      pub not_flushed : (hand : Option (List ℕ)) → sent_by s ++ held new.aggregator ≡ sent_by b ++ held old.aggregator
+      pub not_flushed : (hand : Option (List ℕ)) → sent_by s ++ held new.lines.aggregator ≡ sent_by b ++ held old.lines.aggregator
           → SumsTurn kind history hand old (step.Flush, reply.Flushed (Err e)) new
       not_flushed hand same = record {
         asked = begun.asked;
@@ -155,7 +155,7 @@ module _ {P A : Type 0} (kind : P → WriterKind) (history : P → PacketHistory
 
     -- The packer was flushed, or its flush failed.
     pub flushed_both : (hand : Option (List ℕ)) (result : Result (Unit {0}) SinkError) → refused_count s.refused ≡ refused_count b.refused
-        → sent_by s ++ held new.aggregator ≡ sent_by b ++ held old.aggregator → new.sink ≡ record s { packing = new.sink.packing }
+        → sent_by s ++ held new.lines.aggregator ≡ sent_by b ++ held old.lines.aggregator → new.sink ≡ record s { packing = new.sink.packing }
         → KeepsKindAndFormat kind s.packing new.sink.packing
         → MovesPacker (kind s.packing.packer.writer) s.packing.packer.format (packed_state history s.packing) (flushed result) (packed_state history new.sink.packing)
         → SumsTurn kind history hand old (step.Flush, reply.Flushed result) new
@@ -166,6 +166,6 @@ module _ {P A : Type 0} (kind : P → WriterKind) (history : P → PacketHistory
       packs = then_flushed old.sink s new.sink begun.asked result begun.packs only keeps send;
       said = [];
       says = tt;
-      summary = same_of _ _ (append-nil (sent_by old.sink ++ held old.aggregator) ∙ ap (λ xs. xs ++ held old.aggregator) (sym sent_before) ∙ sym same
-          ∙ ap (λ xs. xs ++ held new.aggregator) (sym (ap (λ (x : PackerSink P A). sent_by x) only)));
+      summary = same_of _ _ (append-nil (sent_by old.sink ++ held old.lines.aggregator) ∙ ap (λ xs. xs ++ held old.lines.aggregator) (sym sent_before) ∙ sym same
+          ∙ ap (λ xs. xs ++ held new.lines.aggregator) (sym (ap (λ (x : PackerSink P A). sent_by x) only)));
     }

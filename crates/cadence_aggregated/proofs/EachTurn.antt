@@ -5,7 +5,7 @@ use Rattle.std.proofs.lemmas.List.{append-nil, append_assoc}
 use Rattle.cadence_aggregate.specs.Aggregate.{held}
 use Rattle.cadence_aggregate.specs.Server.{Sample, IsSummary}
 use Rattle.cadence_aggregate.proofs.Observed.{same_more, same_trans}
-use Rattle.cadence_aggregating.proofs.Records.{none_past}
+use Rattle.cadence_aggregating.proofs.Records.{none_past, zip_append}
 use Rattle.cadence_aggregating.specs.Past.{SumsUp}
 use Rattle.cadence_aggregating.specs.Says.{LineSays}
 use Rattle.cadence_flow.specs.Writer.{PacketHistory, WriterKind}
@@ -20,13 +20,6 @@ use Rattle.cadence_aggregated.specs.Sendings.{Sending}
 use Rattle.cadence_aggregated.specs.SoFar.{SoFar}
 use Rattle.cadence_aggregated.specs.Steps.{Goes, MovesQueue, QueueMoves, SumsTurn, accepted_in_turn, hand_of, queue_state}
 use Rattle.cadence_aggregated.specs.declared.running.Running.{Running}
-
-zip_append : (xs ys : List (List ℕ)) (firsts seconds : List Sample) → AllZip LineSays xs firsts → AllZip LineSays ys seconds
-    → AllZip LineSays (xs ++ ys) (firsts ++ seconds)
-zip_append [] ys [] seconds h g = g
-zip_append [] ys (s ∷ firsts) seconds h g = absurd h
-zip_append (x ∷ xs) ys [] seconds h g = absurd h
-zip_append (x ∷ xs) ys (s ∷ firsts) seconds (here, rest) g = (here, zip_append xs ys firsts seconds rest g)
 
 -- Lines were accepted, and others were handed on.
 past_step : (accepted lines : List (List ℕ)) (added sent sent' before after : List Sample) → SumsUp accepted sent before
@@ -61,7 +54,7 @@ module _ {A : Type 0} (line_of : Call A → Option (List ℕ)) (queue : Option �
 
 module _ {P A : Type 0} (kind : P → WriterKind) (history : P → PacketHistory) (line_of : Call A → Option (List ℕ)) where
   -- Before the first turn.
-  pub so_far_none : (first : Running P A) → held first.sums.aggregator ≡ [] → sent_by first.sums.sink ≡ []
+  pub so_far_none : (first : Running P A) → held first.sums.lines.aggregator ≡ [] → sent_by first.sums.sink ≡ []
       → SoFar kind history line_of first first []
   so_far_none first none unsent = record {
     accepted = [];
@@ -85,8 +78,8 @@ module _ {P A : Type 0} (kind : P → WriterKind) (history : P → PacketHistory
     all = s.all ++ sums.asked;
     asked = ask_more turns t s.all sums.asked s.asked sums.asks;
     packs = packs_joined kind history first.sums.sink mid.sums.sink new.sums.sink s.all sums.asked s.packs sums.packs;
-    past = past_step s.accepted (accepted_in_turn t (hand_of mid)) sums.said (sent_by mid.sums.sink) (sent_by new.sums.sink) (held mid.sums.aggregator)
-        (held new.sums.aggregator) s.past sums.says sums.summary;
+    past = past_step s.accepted (accepted_in_turn t (hand_of mid)) sums.said (sent_by mid.sums.sink) (sent_by new.sums.sink) (held mid.sums.lines.aggregator)
+        (held new.sums.lines.aggregator) s.past sums.says sums.summary;
     same_queue = queue.same_queue ∙ s.same_queue;
     same_policy = queue.same_policy ∙ s.same_policy;
   }

@@ -112,11 +112,11 @@ module _ {W A : Type 0} (kind_of : W → WriterKind) (history_of : W → PacketH
     lines_are : lines_by run.sums.sink ≡ texts_in (counts_of_kept s.all)
     lines_are = s.packs.lines ∙ ap (λ ns. map line_of_note ns ++ texts_in (counts_of_kept s.all)) start.notes_are
 
-    summary : Summarizes (kept lines turns) (texts_in (counts_of_kept s.all)) (held run.sums.aggregator)
+    summary : Summarizes (kept lines turns) (texts_in (counts_of_kept s.all)) (held run.sums.lines.aggregator)
     summary =
-        subst (λ ls. Summarizes ls (texts_in (counts_of_kept s.all)) (held run.sums.aggregator)) after.kept_is
-        (subst (λ ls. Summarizes s.accepted ls (held run.sums.aggregator)) lines_are
-        (summarizes s.accepted run.sums.sink.notes.items (held run.sums.aggregator) s.past))
+        subst (λ ls. Summarizes ls (texts_in (counts_of_kept s.all)) (held run.sums.lines.aggregator)) after.kept_is
+        (subst (λ ls. Summarizes s.accepted ls (held run.sums.lines.aggregator)) lines_are
+        (summarizes s.accepted run.sums.sink.notes.items (held run.sums.lines.aggregator) s.past))
 
     all_filled : AllByRecursion (λ (line : List ℕ). line ≢ []) (kept lines turns)
     all_filled =
@@ -161,8 +161,8 @@ module _ {W A : Type 0} (kind_of : W → WriterKind) (history_of : W → PacketH
         → CutAfter kind format reports whole before.packets (marks_from 0 s.all) (refusals_from 0 s.all) (texts_in (counts_of_kept s.all)) now
     cut_after reports whole =
         cut_all kind format reports whole before.packets s.all [] [] [] (record { cut = []; history = before; held = [] }) now sends
-        (kept_filled law (kept lines turns) (counts_of_kept s.all) (held run.sums.aggregator) all_filled summary)
-        (omega (arith, no_more_kept (kept lines turns) (counts_of_kept s.all) (held run.sums.aggregator) summary, length-kept lines turns, short))
+        (kept_filled law (kept lines turns) (counts_of_kept s.all) (held run.sums.lines.aggregator) all_filled summary)
+        (omega (arith, no_more_kept (kept lines turns) (counts_of_kept s.all) (held run.sums.lines.aggregator) summary, length-kept lines turns, short))
         (record { packets = []; groups = []; since = sym (append-nil before.packets); plan_is = refl; cut = no_lines format })
 
     packed_cut : ReportsWhole (kind_of writer)
@@ -220,7 +220,7 @@ module _ {W A : Type 0} (kind_of : W → WriterKind) (history_of : W → PacketH
     pub has_aggregated : length now.held ≤ (packing_of run).packer.format.capacity
         → (packing_of run).packer.writer.stats.bytes_sent < 2 ^ 64 → (packing_of run).packer.writer.stats.packets_sent < 2 ^ 64
         → HasAggregated history_of (given_of kind_of history_of settings capacity ending queue policy steps writer) (outcome_of_running run replies)
-        (held run.sums.aggregator) s.all
+        (held run.sums.lines.aggregator) s.all
     has_aggregated bound bytes packets = record {
       replies = has_replies;
       asked = s.asked;

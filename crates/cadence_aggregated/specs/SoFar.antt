@@ -19,7 +19,7 @@ use Rattle.cadence_aggregated.specs.declared.running.Running.{Running}
 pub record Starts {P A : Type 0} (capacity : ℕ) (ending : List ℕ) (queue : Option ℕ) (policy : QueuePolicy) (writer : P) (run : Running P A) : Type 0 where
   pub queue_is : run.queue ≡ new_queue queue policy
   pub hand_is : run.in_hand ≡ None
-  pub held_is : held run.sums.aggregator ≡ []
+  pub held_is : held run.sums.lines.aggregator ≡ []
   pub notes_are : run.sums.sink.notes.items ≡ []
   pub packer_is : run.sums.sink.packing.packer ≡ new_packer writer capacity ending
   pub cut_is : run.sums.sink.packing.cut.items ≡ []
@@ -33,6 +33,6 @@ module _ {P A : Type 0} (kind : P → WriterKind) (history : P → PacketHistory
     pub all : List Sending
     pub asked : AskAll turns all
     pub packs : SinkPacks kind history first.sums.sink run.sums.sink all
-    pub past : SumsUp accepted (sent_by run.sums.sink) (held run.sums.aggregator)
+    pub past : SumsUp accepted (sent_by run.sums.sink) (held run.sums.lines.aggregator)
     pub same_queue : run.queue.capacity ≡ first.queue.capacity
     pub same_policy : run.queue.policy ≡ first.queue.policy

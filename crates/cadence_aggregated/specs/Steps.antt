@@ -18,7 +18,7 @@ use Rattle.cadence_aggregated.specs.Asked.{Asks}
 use Rattle.cadence_aggregated.specs.Leads.{SinkPacks, sent_by}
 use Rattle.cadence_aggregated.specs.Sendings.{Sending}
 use Rattle.cadence_aggregated.specs.declared.running.Running.{Running}
-use Rattle.cadence_aggregated.specs.declared.sums.Sums.{Sums}
+use Rattle.cadence_aggregated.specs.declared.packed_sums.PackedSums.{PackedSums}
 
 -- no packets
 abbrev pub nothing : PacketHistory
@@ -80,7 +80,7 @@ module _ {P A : Type 0} where
 
   module _ (kind : P → WriterKind) (history : P → PacketHistory) where
     -- what the turn does to the aggregator and the packer, if this line is in hand
-    pub record SumsTurn (hand : Option (List ℕ)) (old : Sums P A) (turn : Turn A) (new : Sums P A) : Type 0 where
+    pub record SumsTurn (hand : Option (List ℕ)) (old : PackedSums P A) (turn : Turn A) (new : PackedSums P A) : Type 0 where
       -- what the packer was asked
       pub asked : List Sending
       pub asks : Asks turn asked
@@ -89,4 +89,4 @@ module _ {P A : Type 0} where
       pub said : List Sample
       pub says : AllZip LineSays (accepted_in_turn turn hand) said
       -- What was sent and what is held are a summary of what they were before, with what was said.
-      pub summary : IsSummary ((sent_by old.sink ++ held old.aggregator) ++ said) (sent_by new.sink ++ held new.aggregator)
+      pub summary : IsSummary ((sent_by old.sink ++ held old.lines.aggregator) ++ said) (sent_by new.sink ++ held new.lines.aggregator)

@@ -10,12 +10,11 @@ ghost use Rattle.cadence_aggregated.specs.RunOutcome.{outcome_of_running};
 ghost use Rattle.cadence_aggregated.specs.Sendings.{Sending};
 ghost use Rattle.cadence_aggregated.specs.SoFar.{SoFar, Starts};
 
+use crate::packed_sums::PackedSums;
 use crate::packing::Packing;
 use crate::report::AggregatedReport;
 use crate::running::Running;
-use crate::sums::Sums;
-use cadence_aggregate::Aggregator;
-use cadence_aggregating::Limits;
+use cadence_aggregating::{Limits, Sums};
 use cadence_errors::MetricResult;
 use cadence_flow::io::{CountingWriter, LineBuffer, PacketWriter};
 use cadence_queue::QueuePolicy;
@@ -24,16 +23,15 @@ use cadence_settings::ClientSettings;
 use cadence_text::laws::no_line_is_empty;
 use std::alloc::{Allocator, Global};
 
-// Makes an aggregator that holds nothing, and an allocator for the packer.
-fn own_aggregator<A: Allocator + Clone>(
+// Makes sums of no line, and an allocator for the packer.
+fn own_sums<A: Allocator + Clone>(
     global: Global,
     alloc: &A,
     limits: Limits,
-) -> MetricResult<(Aggregator, A)>
-    ensures { IfOk result (λ made. held made.0 ≡ []) }
+) -> MetricResult<(Sums, A)>
+    ensures { IfOk result (λ made. held made.0.aggregator ≡ []) }
 {
-    let aggregator = Aggregator::new(global, limits.most_contexts, limits.most_bytes)?;
-    Ok((aggregator, alloc.clone()?))
+    Ok((Sums::new(global, limits)?, alloc.clone()?))
 }
 
 // Returns a run before its first step, with room for the replies of `steps` steps, or the writer if memory runs out.
@@ -58,7 +56,7 @@ fn start<P: PacketWriter, A: Allocator + Clone>(
     let Ok((replies, cut, queue)) = lists_of_run(alloc, steps, queue, policy) else {
         return Err(writer);
     };
-    let Ok((aggregator, second)) = own_aggregator(global, alloc, limits) else {
+    let Ok((lines, second)) = own_sums(global, alloc, limits) else {
         return Err(writer);
     };
     let packer = LineBuffer::with_ending(second, writer, capacity, ending)?;
@@ -66,7 +64,7 @@ fn start<P: PacketWriter, A: Allocator + Clone>(
     let running = Running {
         queue,
         in_hand: None,
-        sums: Sums::new(global, limits, aggregator, packing),
+        sums: PackedSums::new(global, lines, packing),
     };
     Ok((running, replies))
 }
@@ -78,7 +76,7 @@ fn run_steps<P: PacketWriter, A: Allocator + Clone>(
     running: &mut Running<P, A>,
     replies: &mut Vec<Reply, A>,
 )
-    requires held { held running.old.sums.aggregator ≡ [] }
+    requires held { held running.old.sums.lines.aggregator ≡ [] }
     requires sent { sent_by running.old.sums.sink ≡ [] }
     requires replies { (replies.old.items ≡ []) × (length steps.now ≤ vec_capacity replies.old) }
     ensures so_far { SoFar P.kind P.history (line_of_data settings.now)
@@ -99,7 +97,7 @@ fn report_of<W: PacketWriter, A: Allocator>(
     replies: Vec<Reply, A>,
 ) -> AggregatedReport<W, A>
     ensures outcome { outcome_shown result ≡ outcome_of_running running replies }
-    ensures aggregator { result.aggregator ≡ running.sums.aggregator }
+    ensures aggregator { result.aggregator ≡ running.sums.lines.aggregator }
     ensures held { length (outcome_shown result).held
         ≤ running.sums.sink.packing.packer.format.capacity }
     ensures bytes_sent { (outcome_shown result).stats.bytes_sent < 2 ^ 64 }

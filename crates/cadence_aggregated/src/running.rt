@@ -1,5 +1,5 @@
 //! The state of a run between two steps, and what each step does to it.
-use crate::sums::Sums;
+use crate::packed_sums::PackedSums;
 use cadence_errors::MetricError;
 use cadence_flow::io::PacketWriter;
 use cadence_queue::{QueueCore, Taken};
@@ -12,7 +12,7 @@ use std::alloc::{Allocator, Global};
 pub(crate) struct Running<P: PacketWriter, A: Allocator = Global> {
     pub(crate) queue: QueueCore<String<A>, A>,
     pub(crate) in_hand: Option<String<A>>,
-    pub(crate) sums: Sums<P, A>,
+    pub(crate) sums: PackedSums<P, A>,
 }
 
 impl<P: PacketWriter, A: Allocator + Clone> Running<P, A> {

@@ -1,11 +1,10 @@
 -- The record of an aggregator, one step further, and what it shows.
 use Rattle.std.proofs.Common.{◌≡◌, ◌⊎◌, inl, inr, ℕ, List, [], ◌∷◌, ◌++◌, Result, Ok, Err, MatchResult, OnOk, length, map, refl, sym, ap, ap₂, subst, ◌∙◌, append-nil, append_assoc}
 use Rattle.std.proofs.Math.Logic.{∥∥₁_map}
-use Rattle.std.proofs.lemmas.List.{map-append}
+use Rattle.std.proofs.lemmas.List.{append_cancel_left, map-append}
 use Rattle.std.specs.List.{AllZip}
 use Rattle.cadence_aggregate.specs.Server.{Sample, IsSummary}
 use Rattle.cadence_aggregate.proofs.Observed.{same_of, same_trans, same_more, same_refl}
-use Rattle.cadence_aggregate.proofs.Rearranged.{same_before}
 use Rattle.cadence_aggregating.specs.Notes.{line_of_note, sample_of_note}
 use Rattle.cadence_aggregating.specs.Noted.{noted}
 use Rattle.cadence_aggregate.specs.Within.{StayWithin}
@@ -18,18 +17,22 @@ use Rattle.cadence_aggregating.specs.declared.recorded.RecordedAggregator.{Recor
 use Rattle.cadence_aggregating.specs.Printed.{line_saying}
 use Rattle.cadence_aggregating.specs.Recorded.{samples_held}
 use Rattle.cadence_aggregating.specs.Says.{LineSays}
+use Rattle.cadence_aggregating.specs.Quiet.{IsQuiet}
 use Rattle.cadence_aggregating.specs.Shown.{AcceptsNone, SendsAll}
+use Rattle.cadence_aggregating.specs.declared.limits.Limits.{Limits}
+use Rattle.cadence_aggregate.specs.declared.aggregator.Aggregator.{Aggregator}
 use Rattle.cadence_aggregating.specs.declared.note.Note.{Note}
 use Rattle.cadence_aggregating.specs.declared.note.Kind.TheVariants.{Amount, Level, Member, Timing, Unclear, Other}
 use Rattle.cadence_aggregating.proofs.Among.{Among}
 use Rattle.cadence_aggregating.proofs.Sayable.{IsSized, all_said, sayable}
 
-zip_more : (lines : List (List ℕ)) (said : List Sample) (line : List ℕ) (s : Sample) → AllZip LineSays lines said → LineSays line s
-    → AllZip LineSays (lines ++ line ∷ []) (said ++ s ∷ [])
-zip_more [] [] line s h last = (last, tt)
-zip_more [] (x ∷ said) line s h last = absurd h
-zip_more (y ∷ lines) [] line s h last = absurd h
-zip_more (y ∷ lines) (x ∷ said) line s (here, rest) last = (here, zip_more lines said line s rest last)
+-- lines that say this, and then others
+pub zip_append : (xs ys : List (List ℕ)) (firsts seconds : List Sample) → AllZip LineSays xs firsts → AllZip LineSays ys seconds
+    → AllZip LineSays (xs ++ ys) (firsts ++ seconds)
+zip_append [] ys [] seconds h g = g
+zip_append [] ys (s ∷ firsts) seconds h g = absurd h
+zip_append (x ∷ xs) ys [] seconds h g = absurd h
+zip_append (x ∷ xs) ys (s ∷ firsts) seconds (here, rest) g = (here, zip_append xs ys firsts seconds rest g)
 
 -- nothing was accepted yet
 pub none_past : SumsUp [] [] []
@@ -51,7 +54,7 @@ past_more limit accepted entry sent held sent' held' s (said, zip, sum, stay) sa
     let lines : lines_of_entries (accepted ++ entry ∷ []) ≡ lines_of_entries accepted ++ line_of_entry entry ∷ [] = map-append line_of_entry accepted (entry ∷ []) in
     subst (λ ls. SumsUpWithin limit ls sent' held') (sym lines) (
       said ++ s ∷ [],
-      zip_more (lines_of_entries accepted) said (line_of_entry entry) s zip says,
+      zip_append (lines_of_entries accepted) (line_of_entry entry ∷ []) said (s ∷ []) zip (says, tt),
       same_trans _ _ _ (same_more said (sent ++ held) (s ∷ []) sum) step,
       stay_further limit (said ++ s ∷ []) ((sent ++ held) ++ s ∷ []) (sent' ++ held') (stay_more limit said (sent ++ held) (s ∷ []) stay) within,
     )
@@ -131,77 +134,34 @@ flushed_lines old new held held' same none =
 pub same_lines : (old new : List Note) → map sample_of_note new ≡ map sample_of_note old → map line_of_note new ≡ map line_of_note old
 same_lines old new same = noted_lines new ∙ ap (map line_saying) same ∙ sym (noted_lines old)
 
--- one more line was accepted
-sums_more : (accepted : List (List ℕ)) (line : List ℕ) (sent held sent' held' : List Sample) (s : Sample)
-    → SumsUp accepted sent held → LineSays line s → IsSummary ((sent ++ held) ++ s ∷ []) (sent' ++ held')
-    → SumsUp (accepted ++ line ∷ []) sent' held'
-sums_more accepted line sent held sent' held' s (said, zip, sum) says step =
-    (said ++ s ∷ [], zip_more accepted said line s zip says, same_trans _ _ _ (same_more said (sent ++ held) (s ∷ []) sum) step)
+-- If a call is quiet by what the lines of notes say, it is quiet by the lines.
+pub quiet_lines : (limits : Limits) (aggregator : Aggregator) (line : List ℕ) (old new : List Note)
+    → IsQuiet limits aggregator line (map sample_of_note old) (map sample_of_note new)
+    → IsQuiet limits aggregator line (map line_of_note old) (map line_of_note new)
+quiet_lines limits aggregator line old new (said, says, quiet) = (said, says, λ to_hold can. same_lines old new (quiet to_hold can))
 
-sums_kept : (accepted : List (List ℕ)) (sent held sent' held' : List Sample) → SumsUp accepted sent held
-    → IsSummary (sent ++ held) (sent' ++ held') → SumsUp accepted sent' held'
-sums_kept accepted sent held sent' held' (said, zip, sum) step = (said, zip, same_trans _ _ _ sum step)
+-- the same of lines that wait, if none went
+pub quiet_waiting : (limits : Limits) (aggregator : Aggregator) (line : List ℕ) (gone gone' old new : List Note) → gone' ≡ gone
+    → IsQuiet limits aggregator line (map sample_of_note (gone ++ old)) (map sample_of_note (gone' ++ new))
+    → IsQuiet limits aggregator line (map line_of_note old) (map line_of_note new)
+quiet_waiting limits aggregator line gone gone' old new stay (said, says, quiet) = (
+  said,
+  says,
+  λ to_hold can. append_cancel_left (map line_of_note gone) (map line_of_note new) (map line_of_note old)
+      (sym (map-append line_of_note gone new) ∙ ap (λ g. map line_of_note (g ++ new)) (sym stay) ∙ same_lines (gone ++ old) (gone' ++ new) (quiet to_hold can)
+      ∙ map-append line_of_note gone old),
+)
 
--- the second is a summary of the first with one more step between what was sent before and what is held
-step_after : (gone before after : List Note) (held held' : List Sample) (said : List Sample)
-    → IsSummary ((map sample_of_note before ++ held) ++ said) (map sample_of_note after ++ held')
-    → IsSummary ((map sample_of_note (gone ++ before) ++ held) ++ said) (map sample_of_note (gone ++ after) ++ held')
-step_after gone before after held held' said step =
-    let g = map sample_of_note gone in
-    let first : (map sample_of_note (gone ++ before) ++ held) ++ said ≡ g ++ ((map sample_of_note before ++ held) ++ said) =
-    ap (λ t. (t ++ held) ++ said) (map-append sample_of_note gone before)
-    ∙ ap (λ t. t ++ said) (append_assoc g (map sample_of_note before) held)
-    ∙ append_assoc g (map sample_of_note before ++ held) said in
-    let last : map sample_of_note (gone ++ after) ++ held' ≡ g ++ (map sample_of_note after ++ held') =
-    ap (λ t. t ++ held') (map-append sample_of_note gone after) ∙ append_assoc g (map sample_of_note after) held' in
-    subst (λ t. IsSummary t (map sample_of_note (gone ++ after) ++ held')) (sym first)
-    (subst (IsSummary (g ++ ((map sample_of_note before ++ held) ++ said))) (sym last)
-    (same_before g ((map sample_of_note before ++ held) ++ said) (map sample_of_note after ++ held') step))
-
--- one more line was accepted, and lines came to those that wait
-pub summed_more : (accepted : List Accepted) (entry : Accepted) (gone before after : List Note) (held held' : List Sample)
-    → SumsUp (lines_of_entries accepted) (map sample_of_note (gone ++ before)) held
-    → (s : Sample) → LineSays (line_of_entry entry) s → IsSummary ((map sample_of_note before ++ held) ++ s ∷ []) (map sample_of_note after ++ held')
-    → SumsUp (lines_of_entries (accepted ++ entry ∷ [])) (map sample_of_note (gone ++ after)) held'
-summed_more accepted entry gone before after held held' past s says step =
-    let lines : lines_of_entries (accepted ++ entry ∷ []) ≡ lines_of_entries accepted ++ line_of_entry entry ∷ [] = map-append line_of_entry accepted (entry ∷ []) in
-    subst (λ ls. SumsUp ls (map sample_of_note (gone ++ after)) held') (sym lines)
-    (sums_more (lines_of_entries accepted) (line_of_entry entry) (map sample_of_note (gone ++ before)) held (map sample_of_note (gone ++ after)) held' s past says
-    (step_after gone before after held held' (s ∷ []) step))
-
--- no line was accepted, and lines came to those that wait
-pub summed_kept : (accepted : List (List ℕ)) (gone before after : List Note) (held held' : List Sample)
-    → SumsUp accepted (map sample_of_note (gone ++ before)) held
-    → IsSummary (map sample_of_note before ++ held) (map sample_of_note after ++ held')
-    → SumsUp accepted (map sample_of_note (gone ++ after)) held'
-summed_kept accepted gone before after held held' past step =
-    sums_kept accepted (map sample_of_note (gone ++ before)) held (map sample_of_note (gone ++ after)) held' past
-    (subst (λ t. IsSummary t (map sample_of_note (gone ++ after) ++ held')) (append-nil (map sample_of_note (gone ++ before) ++ held))
-    (step_after gone before after held held' []
-    (subst (λ t. IsSummary t (map sample_of_note after ++ held')) (sym (append-nil (map sample_of_note before ++ held))) step)))
-
--- what was held came to the lines that wait
-pub summed_flushed : (accepted : List (List ℕ)) (gone before after : List Note) (held held' : List Sample)
-    → SumsUp accepted (map sample_of_note (gone ++ before)) held
-    → map sample_of_note after ++ held' ≡ map sample_of_note before ++ held
-    → SumsUp accepted (map sample_of_note (gone ++ after)) held'
-summed_flushed accepted gone before after held held' past same =
-    summed_kept accepted gone before after held held' past (same_of (map sample_of_note before ++ held) (map sample_of_note after ++ held') (sym same))
-
--- the first line that waits is gone
-pub summed_dropped : (accepted : List (List ℕ)) (gone before after : List Note) (note : Note) (held : List Sample)
-    → SumsUp accepted (map sample_of_note (gone ++ before)) held → before ≡ note ∷ after
-    → SumsUp accepted (map sample_of_note ((gone ++ note ∷ []) ++ after)) held
-summed_dropped accepted gone before after note held past first =
-    subst (λ notes. SumsUp accepted (map sample_of_note notes) held)
-    (ap (λ t. gone ++ t) first ∙ sym (append_assoc gone (note ∷ []) after)) past
-
--- what the record of lines that wait shows
-pub summed_shows : (accepted : List (List ℕ)) (gone waiting : List Note) (held : List Sample)
-    → SumsUp accepted (map sample_of_note (gone ++ waiting)) held
-    → Summarizes accepted (map line_of_note gone ++ map line_of_note waiting) held
-summed_shows accepted gone waiting held past =
-    subst (λ lines. Summarizes accepted lines held) (map-append line_of_note gone waiting) (summarizes accepted (gone ++ waiting) held past)
+-- the lines that a flush lets wait, if none went
+pub flushed_waiting : (gone gone' old new : List Note) (held held' : List Sample) → gone' ≡ gone
+    → map sample_of_note (gone' ++ new) ++ held' ≡ map sample_of_note (gone ++ old) ++ held → held' ≡ []
+    → map line_of_note new ≡ map line_of_note old ++ map line_saying held
+flushed_waiting gone gone' old new held held' stay same none =
+    append_cancel_left (map line_of_note gone) (map line_of_note new) (map line_of_note old ++ map line_saying held)
+    (sym (map-append line_of_note gone new) ∙ ap (λ g. map line_of_note (g ++ new)) (sym stay)
+    ∙ flushed_lines (gone ++ old) (gone' ++ new) held held' same none
+    ∙ ap (λ t. t ++ map line_saying held) (map-append line_of_note gone old)
+    ∙ append_assoc (map line_of_note gone) (map line_of_note old) (map line_saying held))
 
 -- lines without their lengths
 pub without_lengths : (lines : List (List ℕ)) → map (λ (taken : List ℕ × ℕ). taken.0) (map (λ line. (line, length line)) lines) ≡ lines

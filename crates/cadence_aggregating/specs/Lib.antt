@@ -21,5 +21,6 @@ pub mod Says
 pub mod Shared
 pub mod Shown
 pub mod Summed
+pub mod Sums
 pub mod ToHold
 pub mod Waiting

@@ -8,8 +8,8 @@ use Rattle.cadence_aggregating.specs.Says.{LineSays}
 use Rattle.cadence_aggregating.specs.ToHold.{IsToHold}
 use Rattle.cadence_aggregating.specs.declared.limits.Limits.{Limits}
 
--- The line says something, and if that is to be held, and can be held without sending a line, then the sink took no line:
--- it has the second lines, and had the first.
-abbrev pub IsQuiet : Limits → Aggregator → List ℕ → List (List ℕ) → List (List ℕ) → Type 0
+-- The line says something, and if that is to be held, and can be held without sending a line, then nothing changed below:
+-- the second is the state after the call, and the first the one before it.
+abbrev pub IsQuiet : {X : Type 0} → Limits → Aggregator → List ℕ → X → X → Type 0
 IsQuiet limits aggregator line before after =
     (said : Line) × LineSays line (sample_of said) × (IsToHold limits said (length line) → CanHold aggregator said → after ≡ before)

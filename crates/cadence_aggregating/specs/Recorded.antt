@@ -2,11 +2,10 @@
 use Rattle.std.specs.Prelude.{ℕ, List, length, map}
 use Rattle.cadence_stage.specs.Call.{Call}
 use Rattle.cadence_stage.specs.Past.{taken_in}
-use Rattle.cadence_aggregate.specs.Aggregate.{held}
 use Rattle.cadence_aggregate.specs.Server.{Sample}
 use Rattle.cadence_aggregate.specs.declared.aggregator.Aggregator.{Aggregator}
 use Rattle.cadence_aggregating.specs.Notes.{line_of_note}
-use Rattle.cadence_aggregating.specs.Accepted.{lines_of_entries}
+use Rattle.cadence_aggregating.specs.Sums.{accepted_by, held_by}
 use Rattle.cadence_aggregating.specs.declared.limits.Limits.{Limits}
 use Rattle.cadence_aggregating.specs.declared.recorded.RecordedAggregator.{RecordedAggregator}
 
@@ -17,7 +16,7 @@ lines_in_calls calls = map (λ taken. taken.0) (taken_in calls)
 module _ {S : Type 0} where
   -- the lines that were accepted, in order
   abbrev pub lines_accepted : RecordedAggregator S → List (List ℕ)
-  lines_accepted a = lines_of_entries a.accepted.items
+  lines_accepted a = accepted_by a.sums
 
   -- the lines that the aggregator accepted, each with its length
   abbrev pub whole_lines : RecordedAggregator S → List (List ℕ × ℕ)
@@ -33,15 +32,15 @@ module _ {S : Type 0} where
 
   -- what the lines of the next flush say
   abbrev pub samples_held : RecordedAggregator S → List Sample
-  samples_held a = held a.aggregator
+  samples_held a = held_by a.sums
 
   -- what may be held, and how long a line may be
   abbrev pub limits_of : RecordedAggregator S → Limits
-  limits_of a = a.limits
+  limits_of a = a.sums.limits
 
   -- what holds what lines say
   abbrev pub aggregator_of : RecordedAggregator S → Aggregator
-  aggregator_of a = a.aggregator
+  aggregator_of a = a.sums.aggregator
 
   -- the wrapped sink
   abbrev pub sink_of : RecordedAggregator S → S

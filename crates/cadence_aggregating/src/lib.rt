@@ -5,6 +5,7 @@
 //! - `printed`: writes the line that says something, and notes what it says.
 //! - `printer`: prints the lines of an aggregator as text, for a sink of metrics.
 //! - `limits`: the settings of an aggregator.
+//! - `sums`: lines that are added up, over any sink of what they say.
 //! - `recorded`: an aggregator of lines over a sink of metrics, with a record of its past, as a stage.
 //! - `looks`: what a look at a queue says whose worker feeds an aggregator.
 //! - `waiting`: lines that wait until their owner has sent them.
@@ -39,6 +40,7 @@ mod said;
 mod shared;
 mod sink;
 mod summed;
+mod sums;
 mod waiting;
 
 pub use builder::AggregatingMetricSinkBuilder;
@@ -51,6 +53,6 @@ pub use note::{Kind, Note};
 pub use printed::note_line;
 pub use recorded::RecordedAggregator;
 pub use runs::{Outcome, Step, run};
-pub use said::read_said;
 pub use sink::AggregatingMetricSink;
 pub use summed::SummedLines;
+pub use sums::Sums;

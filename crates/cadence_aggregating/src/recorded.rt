@@ -3,70 +3,29 @@
 mod called;
 mod stage;
 
-ghost use Rattle.std.specs.Prelude.{◌≡◌, ◌++◌, ◌∷◌, [], IfOk, OnErr, OnOk, length, map, true};
-ghost use Rattle.cadence_aggregate.specs.Aggregate.{CanHold, held};
-ghost use Rattle.cadence_aggregate.specs.Lines.{samples_of};
-ghost use Rattle.cadence_aggregate.specs.Refusals.{after_reply};
-ghost use Rattle.cadence_aggregate.specs.Server.{IsSummary};
+ghost use Rattle.std.specs.Prelude.{◌≡◌, ◌++◌, ◌∷◌, [], IfOk, OnErr, OnOk, length, map};
 ghost use Rattle.cadence_aggregating.specs.Notes.{sample_of_note};
-ghost use Rattle.cadence_aggregate.specs.Within.{StayWithin, if_ok};
-ghost use Rattle.cadence_aggregating.specs.Past.{SumsUpWithin};
-ghost use Rattle.cadence_aggregating.specs.Accepted.{lines_of_entries};
+ghost use Rattle.cadence_aggregating.specs.Sums.{HasSummary};
 
-use crate::accepted::Accepted;
 use crate::limits::Limits;
 use crate::printer::Printer;
-use crate::said::read_said;
-use cadence_aggregate::{Aggregator, Fault, Line, LineSink};
+use crate::sums::Sums;
+use cadence_aggregate::Fault;
 use cadence_errors::SinkError;
 use cadence_flow::MetricSink;
-use cadence_stage::GhostList;
 use std::alloc::{AllocError, Global};
 
 // For a line that is sent no more bytes are reserved, however long a line may be.
 const MOST_RESERVED: usize = 65_536;
 
-/// An aggregator of lines over a sink of metrics, with a record of the lines that it accepted. The record exists in
-/// proofs only. The fact `past` is true of every `RecordedAggregator`: what the sink took, with what is still held, is
-/// a summary of what the accepted lines say, and packed values make no line longer than the limit.
+/// An aggregator of lines over a sink of metrics. The fact `past` is true of every `RecordedAggregator`: what the sink
+/// took, with what is still held, is a summary of what the accepted lines say, and packed values make no line longer than
+/// the limit.
 #[derive(Drop)]
 pub struct RecordedAggregator<S: Drop> {
-    alloc: Global,
-    limits: Limits,
-    aggregator: Aggregator,
+    sums: Sums,
     printer: Printer<S>,
-    context: String,
-    accepted: GhostList<Accepted>,
-    pub ghost limit: { aggregator.most_bytes ≡ limits.most_bytes },
-    pub ghost past: { ∥ SumsUpWithin limits.most_bytes (lines_of_entries accepted.items)
-        (map sample_of_note printer.notes.items) (held aggregator) ∥₁ },
-}
-
-/// Adds what a line says, or hands the line on.
-pub(crate) fn add_or_pass<S: LineSink>(
-    aggregator: &mut Aggregator,
-    sink: &mut S,
-    said: Line<'_>,
-    is_held: bool,
-) -> Result<(), Fault>
-    ensures ok { OnOk result (IsSummary
-        ((S.sent sink.old ++ held aggregator.old) ++ samples_of said.entry)
-        (S.sent sink.new ++ held aggregator.new)) }
-    ensures err { OnErr result (IsSummary
-        (S.sent sink.old ++ held aggregator.old) (S.sent sink.new ++ held aggregator.new)) }
-    ensures quiet { is_held ≡ true → CanHold aggregator.old said.entry →
-        S.sent sink.new ≡ S.sent sink.old }
-    ensures refused { S.refusals sink.new ≡ after_reply (S.refusals sink.old) result }
-    ensures limit { aggregator.new.most_bytes ≡ aggregator.old.most_bytes }
-    ensures within { StayWithin aggregator.old.most_bytes
-        ((S.sent sink.old ++ held aggregator.old) ++ if_ok result (samples_of said.entry))
-        (S.sent sink.new ++ held aggregator.new) }
-{
-    if is_held {
-        aggregator.add(sink, said)
-    } else {
-        aggregator.pass(sink, said)
-    }
+    pub ghost past: { HasSummary sums (map sample_of_note printer.notes.items) },
 }
 
 impl<S: MetricSink> RecordedAggregator<S> {
@@ -86,34 +45,12 @@ impl<S: MetricSink> RecordedAggregator<S> {
         ensures refused { IfOk result (λ a. refusals_by a ≡ 0) }
         ensures limits { IfOk result (λ a. limits_of a ≡ limits) }
     {
-        let aggregator = Aggregator::new(alloc, limits.most_contexts, limits.most_bytes)?;
+        let sums = Sums::new(alloc, limits)?;
         let text = String::with_capacity(alloc, limits.most_bytes.min(MOST_RESERVED))?;
         Ok(RecordedAggregator {
-            alloc,
-            limits,
-            aggregator,
+            sums,
             printer: Printer::new(sink, text),
-            context: String::new(alloc),
-            accepted: GhostList::new(),
         })
-    }
-
-    // Reads a line, and adds it or hands it on.
-    fn try_add(&mut self, line: &str) -> Result<(), Fault>
-        ensures ok { OnOk result (lines_accepted self.new
-            ≡ lines_accepted self.old ++ line.now ∷ []) }
-        ensures err { OnErr result (lines_accepted self.new ≡ lines_accepted self.old) }
-        ensures quiet { OnOk result (∥ IsQuiet (limits_of self.old)
-            (aggregator_of self.old) line.now
-            (lines_taken self.old) (lines_taken self.new) ∥₁) }
-        ensures refused { refusals_by self.new ≡ after_reply (refusals_by self.old) result }
-        ensures limits { limits_of self.new ≡ limits_of self.old }
-    {
-        let said = read_said(self.alloc, line, &mut self.context)?;
-        let is_held = self.limits.holds(&said, line.len());
-        add_or_pass(&mut self.aggregator, &mut self.printer, said, is_held)?;
-        self.accepted = self.accepted.and(&Accepted::of(Line::Other(line)));
-        Ok(())
     }
 
     /// Returns why a call failed.
@@ -147,7 +84,7 @@ impl<S: MetricSink> RecordedAggregator<S> {
         ensures refused { HasCountedCause (refusals_by self.old) (refusals_by self.new) result }
         ensures limits { limits_of self.new ≡ limits_of self.old }
     {
-        match self.try_add(line) {
+        match self.sums.add(&mut self.printer, line) {
             Ok(()) => Ok(()),
             Err(fault) => Err(self.error_of(fault)),
         }
@@ -165,7 +102,7 @@ impl<S: MetricSink> RecordedAggregator<S> {
         ensures refused { HasCountedCause (refusals_by self.old) (refusals_by self.new) result }
         ensures limits { limits_of self.new ≡ limits_of self.old }
     {
-        match self.aggregator.flush(&mut self.printer) {
+        match self.sums.flush(&mut self.printer) {
             Ok(()) => Ok(()),
             Err(fault) => Err(self.error_of(fault)),
         }
@@ -175,7 +112,7 @@ impl<S: MetricSink> RecordedAggregator<S> {
     pub(crate) fn count_held(&self) -> u128
         ensures { result ≡ length (samples_held self.now) }
     {
-        self.aggregator.count_held()
+        self.sums.count_held()
     }
 
     /// Returns the sink.

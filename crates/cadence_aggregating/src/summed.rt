@@ -3,45 +3,33 @@
 mod keyed;
 
 ghost use Rattle.std.specs.Prelude.{◌≡◌, ◌++◌, ◌∷◌, [], IfNone, IfOk, IfSome, OnErr, OnOk, drop, map, take};
-ghost use Rattle.cadence_aggregate.specs.Aggregate.{held};
 ghost use Rattle.cadence_aggregating.specs.Notes.{sample_of_note};
-ghost use Rattle.cadence_aggregating.specs.Accepted.{lines_of_entries};
-ghost use Rattle.cadence_aggregating.specs.Past.{SumsUp};
-ghost use Rattle.cadence_aggregating.specs.Waiting.{notes_of};
+ghost use Rattle.cadence_aggregating.specs.Sums.{HasSummary};
+ghost use Rattle.cadence_aggregating.specs.Waiting.{all_notes_of};
 
-use crate::accepted::Accepted;
 use crate::limits::Limits;
-use crate::note::Note;
-use crate::recorded::add_or_pass;
-use crate::said::read_said;
+use crate::sums::Sums;
 use crate::waiting::WaitingLines;
-use cadence_aggregate::{Aggregator, Line};
-use cadence_stage::GhostList;
 use std::alloc::{AllocError, Global};
 
 /// Adds up lines. A line that is to be sent waits until its owner has sent it: `first` returns the first such line, and
 /// `drop_first` drops it, so that it is gone.
 ///
-/// There is a record of the accepted lines and of those that are gone, which exists in proofs only. The fact `past` is
-/// true of all `SummedLines`: the lines that are gone and those that wait, with what is held, are a summary of the
-/// accepted lines.
+/// The fact `past` is true of all `SummedLines`: the lines that are gone and those that wait, with what is held, are a
+/// summary of the accepted lines, and packed values make no line longer than the limit.
 #[derive(Drop)]
 pub struct SummedLines {
-    alloc: Global,
-    limits: Limits,
-    aggregator: Aggregator,
-    context: String,
+    sums: Sums,
     waiting: WaitingLines,
-    accepted: GhostList<Accepted>,
-    gone: GhostList<Note>,
-    pub ghost past: { ∥ SumsUp (lines_of_entries accepted.items)
-        (map sample_of_note (gone.items ++ notes_of waiting)) (held aggregator) ∥₁ },
+    pub ghost past: { HasSummary sums (map sample_of_note (all_notes_of waiting)) },
 }
 
 impl SummedLines {
+    ghost use Rattle.std.specs.Prelude.{All};
+    ghost use Rattle.cadence_aggregating.specs.Origins.{ComesFrom};
     ghost use Rattle.cadence_aggregating.specs.Past.{Summarizes};
     ghost use Rattle.cadence_aggregating.specs.Printed.{line_saying};
-    ghost use Rattle.cadence_aggregating.specs.Summed.{accepted_in, gone_in, held_in, waiting_in};
+    ghost use Rattle.cadence_aggregating.specs.Summed.{AddsQuietly, accepted_in, gone_in, held_in, limits_in, waiting_in};
 
     /// Makes sums of no line. The only error is that memory ran out.
     pub fn new(alloc: Global, limits: Limits) -> Result<SummedLines, AllocError>
@@ -49,17 +37,11 @@ impl SummedLines {
         ensures gone { IfOk result (λ s. gone_in s ≡ []) }
         ensures waiting { IfOk result (λ s. waiting_in s ≡ []) }
         ensures held { IfOk result (λ s. held_in s ≡ []) }
+        ensures limits { IfOk result (λ s. limits_in s ≡ limits) }
     {
-        let aggregator = Aggregator::new(alloc, limits.most_contexts, limits.most_bytes)?;
-        Ok(SummedLines {
-            alloc,
-            limits,
-            aggregator,
-            context: String::new(alloc),
-            waiting: WaitingLines::new(alloc),
-            accepted: GhostList::new(),
-            gone: GhostList::new(),
-        })
+        let sums = Sums::new(alloc, limits)?;
+        let waiting = WaitingLines::new(alloc);
+        Ok(SummedLines { sums, waiting })
     }
 
     /// Adds what a line says to what is held of its context. A line that has to be sent first waits, and so does the
@@ -71,15 +53,14 @@ impl SummedLines {
         ensures ok { OnOk result (accepted_in self.new ≡ accepted_in self.old ++ line.now ∷ []) }
         ensures err { OnErr result (accepted_in self.new ≡ accepted_in self.old) }
         ensures gone { gone_in self.new ≡ gone_in self.old }
+        ensures limits { limits_in self.new ≡ limits_in self.old }
+        ensures quiet { OnOk result
+            (AddsQuietly self.old line.now (waiting_in self.old) (waiting_in self.new)) }
     {
-        let said = read_said(self.alloc, line, &mut self.context)?;
-        let is_held = self.limits.holds(&said, line.len());
-        match add_or_pass(&mut self.aggregator, &mut self.waiting, said, is_held) {
-            Ok(()) => {}
-            Err(_fault) => return Err(AllocError),
+        match self.sums.add(&mut self.waiting, line) {
+            Ok(()) => Ok(()),
+            Err(_fault) => Err(AllocError),
         }
-        self.accepted = self.accepted.and(&Accepted::of(Line::Other(line)));
-        Ok(())
     }
 
     /// Forgets what is held, and lets one line wait for each context of it.
@@ -92,8 +73,9 @@ impl SummedLines {
             ≡ waiting_in self.old ++ map line_saying (held_in self.old)) }
         ensures accepted { accepted_in self.new ≡ accepted_in self.old }
         ensures gone { gone_in self.new ≡ gone_in self.old }
+        ensures limits { limits_in self.new ≡ limits_in self.old }
     {
-        match self.aggregator.flush(&mut self.waiting) {
+        match self.sums.flush(&mut self.waiting) {
             Ok(()) => Ok(()),
             Err(_fault) => Err(AllocError),
         }
@@ -113,17 +95,18 @@ impl SummedLines {
         ensures rest { waiting_in self.new ≡ drop 1 (waiting_in self.old) }
         ensures accepted { accepted_in self.new ≡ accepted_in self.old }
         ensures held { held_in self.new ≡ held_in self.old }
+        ensures limits { limits_in self.new ≡ limits_in self.old }
     {
-        match self.waiting.take_first() {
-            Some(note) => self.gone = self.gone.and(&note),
-            None => {}
-        }
+        self.waiting.drop_first();
     }
 
     /// States that the lines that are gone and those that wait, with what is held, are a summary of the accepted lines:
-    /// a server knows the same after both. Does nothing when it is called.
+    /// a server knows the same after both. States also where each of these lines comes from, and how long it may be. Does
+    /// nothing when it is called.
     pub fn keeps_the_record(&self)
-        ensures { ∥ Summarizes (accepted_in self.now) (gone_in self.now ++ waiting_in self.now)
-            (held_in self.now) ∥₁ }
+        ensures summary { ∥ Summarizes (accepted_in self.now)
+            (gone_in self.now ++ waiting_in self.now) (held_in self.now) ∥₁ }
+        ensures origins { ∥ All (ComesFrom (limits_in self.now).most_bytes (accepted_in self.now))
+            (gone_in self.now ++ waiting_in self.now) ∥₁ }
     {}
 }

@@ -1,10 +1,11 @@
 //! Lines that wait until their owner has sent them.
-ghost use Rattle.std.specs.Prelude.{◌≡◌, ◌∷◌, [], IfNone, IfSome, map, string_bytes, take};
+ghost use Rattle.std.specs.Prelude.{◌≡◌, ◌++◌, ◌∷◌, [], IfNone, IfSome, drop, map, string_bytes, take};
 ghost use Rattle.cadence_aggregating.specs.Notes.{line_of_note};
 
 use crate::note::Note;
 use crate::printed::note_line;
 use cadence_aggregate::{Fault, Line, LineSink};
+use cadence_stage::GhostList;
 use std::alloc::Global;
 use std::collections::VecDeque;
 
@@ -16,23 +17,28 @@ pub struct WaitingLine {
     ghost same: { string_bytes text ≡ line_of_note note },
 }
 
-/// A sink that lets each line wait, in order. It refuses none.
+/// A sink that lets each line wait, in order. It refuses none. `gone` has what the lines say that its owner dropped, and
+/// exists in proofs only.
 #[derive(Drop)]
 pub struct WaitingLines {
     alloc: Global,
     lines: VecDeque<WaitingLine>,
+    gone: GhostList<Note>,
 }
 
 impl WaitingLines {
-    ghost use Rattle.cadence_aggregating.specs.Waiting.{notes_of};
+    ghost use Rattle.cadence_aggregating.specs.Waiting.{all_notes_of, notes_of};
 
-    /// Makes a sink in which no line waits.
+    /// Makes a sink in which no line waits, and from which none is gone.
     pub(crate) fn new(alloc: Global) -> WaitingLines
-        ensures { notes_of result ≡ [] }
+        ensures all { all_notes_of result ≡ [] }
+        ensures waiting { notes_of result ≡ [] }
+        ensures gone { result.gone.items ≡ [] }
     {
         WaitingLines {
             alloc,
             lines: VecDeque::new(alloc),
+            gone: GhostList::new(),
         }
     }
 
@@ -48,31 +54,32 @@ impl WaitingLines {
         }
     }
 
-    /// Takes the first line out and returns what it says. Returns `None` if no line waits.
-    pub(crate) fn take_first(&mut self) -> Option<Note>
-        ensures some { IfSome result (λ note. notes_of self.old ≡ note ∷ notes_of self.new) }
-        ensures none { IfNone result (notes_of self.old ≡ []) }
-        ensures left { IfNone result (notes_of self.new ≡ []) }
+    /// Drops the first line, so that it is gone. If none waits, it does nothing.
+    pub(crate) fn drop_first(&mut self)
+        ensures all { all_notes_of self.new ≡ all_notes_of self.old }
+        ensures gone { self.new.gone.items ≡ self.old.gone.items ++ take 1 (notes_of self.old) }
+        ensures rest { notes_of self.new ≡ drop 1 (notes_of self.old) }
     {
-        let WaitingLine { note, .. } = self.lines.pop_front()?;
-        Some(note)
+        if let Some(first) = self.lines.pop_front() {
+            self.gone = self.gone.and(&first.note);
+        }
     }
 }
 
 impl LineSink for WaitingLines {
-    ghost use Rattle.std.specs.Prelude.{map};
+    ghost use Rattle.std.specs.Prelude.{map, refl};
     ghost use Rattle.cadence_aggregating.specs.Notes.{sample_of_note};
-    ghost use Rattle.cadence_aggregating.specs.Waiting.{notes_of};
+    ghost use Rattle.cadence_aggregating.specs.Waiting.{all_notes_of, none_went};
 
-    ghost sent = { λ w. map sample_of_note (notes_of w) };
+    ghost sent = { λ w. map sample_of_note (all_notes_of w) };
 
     ghost refusals = { λ _. 0 };
 
-    ghost leads = { λ _ _. Unit {0} };
+    ghost leads = { λ a b. b.gone.items ≡ a.gone.items };
 
-    ghost leads_to_itself = { λ _. tt };
+    ghost leads_to_itself = { λ _. refl };
 
-    ghost leads_further = { λ _ _ _ _ _. tt };
+    ghost leads_further = { λ a b c first more. none_went a b c first more };
 
     fn send(&mut self, line: Line<'_>) -> Result<(), Fault> {
         let mut text = String::new(self.alloc);

@@ -1,7 +1,8 @@
 -- The lines that sums give to a client, and the keys of a handle.
-use Rattle.std.proofs.Common.{◌≡◌, ◌<◌, ℕ, List, [], ◌∷◌, ◌++◌, refl, sym, ap, ◌∙◌, append_assoc, append-nil, subst, arith, take, drop, length, Some, Result, Ok, Err}
+use Rattle.std.proofs.Common.{◌≡◌, ℕ, List, [], ◌∷◌, ◌++◌, refl, sym, ap, ◌∙◌, append_assoc, append-nil, subst, take, Some, Result, Ok, Err}
 use Rattle.std.specs.Prelude.{IsSomeAnd, OnErr, OnOk, option_map}
-use Rattle.cadence_aggregating.specs.Summed.{accepted_in, gone_in, held_in, waiting_in}
+use Rattle.std.proofs.Math.Logic.{∥∥₁_map}
+use Rattle.cadence_aggregating.specs.Summed.{AddsQuietly, accepted_in, gone_in, held_in, limits_in, waiting_in}
 use Rattle.cadence_aggregating.specs.declared.summed.SummedLines.{SummedLines}
 use Rattle.cadence_c.specs.ClientState.{ClientState, KeepsLine}
 use Rattle.cadence_c.specs.declared.sums_handle.Sums.{Sums}
@@ -15,11 +16,12 @@ kept_more [] ys s m t h k = subst (λ u. KeepsLines ys u t) h k
 kept_more (x ∷ xs) ys s m t (mid, first, rest) k = (mid, first, kept_more xs ys mid m t rest k)
 
 -- If nothing leaves the sums, the client stays as it is.
-pub gives_none : (a b : SummedLines) (s : ClientState) → gone_in b ≡ gone_in a → GivesLines a b s s
-gives_none a b s same = record { given = []; gone = same ∙ sym (append-nil (gone_in a)); kept = refl }
+pub gives_none : (a b : SummedLines) (s : ClientState) → limits_in b ≡ limits_in a → gone_in b ≡ gone_in a → GivesLines a b s s
+gives_none a b s limits same = record { limits = limits; given = []; gone = same ∙ sym (append-nil (gone_in a)); kept = refl }
 
 pub gives_more : (a b c : SummedLines) (s m t : ClientState) → GivesLines a b s m → GivesLines b c m t → GivesLines a c s t
 gives_more a b c s m t h k = record {
+  limits = k.limits ∙ h.limits;
   given = h.given ++ k.given;
   gone = k.gone ∙ ap (λ g. g ++ k.given) h.gone ∙ append_assoc (gone_in a) h.given k.given;
   kept = kept_more h.given k.given s m t h.kept k.kept;
@@ -27,26 +29,25 @@ gives_more a b c s m t h k = record {
 
 -- The first line that waits leaves the sums, and the client keeps it.
 pub gives_first : (a b : SummedLines) (s t : ClientState) (line : List ℕ) → take 1 (waiting_in a) ≡ line ∷ []
-    → gone_in b ≡ gone_in a ++ take 1 (waiting_in a) → KeepsLine s line t → GivesLines a b s t
-gives_first a b s t line first gone keeps = record { given = line ∷ []; gone = gone ∙ ap (λ l. gone_in a ++ l) first; kept = (t, keeps, refl) }
-
-shorter : (lines : List (List ℕ)) (line : List ℕ) → take 1 lines ≡ line ∷ [] → length (drop 1 lines) < length lines
-shorter [] line h = cc
-shorter (x ∷ lines) line h = omega arith
-
--- Fewer lines wait after the first one is dropped.
-pub fewer_wait : (a b : SummedLines) (line : List ℕ) → take 1 (waiting_in a) ≡ line ∷ [] → waiting_in b ≡ drop 1 (waiting_in a)
-    → length (waiting_in b) < length (waiting_in a)
-fewer_wait a b line first rest = subst (λ ws. length ws < length (waiting_in a)) (sym rest) (shorter (waiting_in a) line first)
+    → limits_in b ≡ limits_in a → gone_in b ≡ gone_in a ++ take 1 (waiting_in a) → KeepsLine s line t → GivesLines a b s t
+gives_first a b s t line first limits gone keeps = record { limits = limits; given = line ∷ []; gone = gone ∙ ap (λ l. gone_in a ++ l) first; kept = (t, keeps, refl) }
 
 -- A line was added between two times at which lines left the sums.
 pub adds_between : (lines : List (List ℕ)) (a b c d : SummedLines) (s m t : ClientState) → GivesLines a b s m → accepted_in b ≡ accepted_in a
-    → gone_in c ≡ gone_in b → accepted_in c ≡ accepted_in b ++ lines → GivesLines c d m t → accepted_in d ≡ accepted_in c
+    → limits_in c ≡ limits_in b → gone_in c ≡ gone_in b → accepted_in c ≡ accepted_in b ++ lines → GivesLines c d m t → accepted_in d ≡ accepted_in c
     → AddsUp lines a d s t
-adds_between lines a b c d s m t first before gone more last after = record {
+adds_between lines a b c d s m t first before limits gone more last after = record {
   accepted = after ∙ more ∙ ap (λ l. l ++ lines) before;
-  gives = gives_more a b d s m t first (gives_more b c d m m t (gives_none b c m gone) last);
+  gives = gives_more a b d s m t first (gives_more b c d m m t (gives_none b c m limits gone) last);
 }
+
+-- If no line waits before a line is added, and none after, the client stays as it is.
+pub adds_quietly : (line : List ℕ) (a b c : SummedLines) (s m t : ClientState) → (waiting_in a ≡ [] → (b ≡ a) × (m ≡ s))
+    → AddsQuietly b line (waiting_in b) (waiting_in c) → (waiting_in c ≡ [] → t ≡ m) → waiting_in a ≡ [] → AddsQuietly a line s t
+adds_quietly line a b c s m t first quiet last none =
+    let (same, kept) = first none in
+    ∥∥₁_map (subst (λ x. AddsQuietly x line (waiting_in x) (waiting_in c)) same quiet)
+    (λ q. (q.0, q.1, λ to_hold can. last (q.2 to_hold can ∙ none) ∙ kept))
 
 pub on_err : {A E P : Type 0} (r : Result A E) → P → OnErr r P
 on_err (Ok a) p = tt

@@ -4,10 +4,10 @@ mod keyed;
 
 ghost use Rattle.std.specs.Prelude.{◌≡◌, ◌≢◌, ◌⊎◌, ◌++◌, [], ◌∷◌, IfSome, IsSomeAnd, None, OnErr, OnOk, Some};
 ghost use Rattle.std.specs.Str.{IsUtf8};
-ghost use Rattle.cadence_aggregating.specs.Summed.{accepted_in, gone_in, held_in, waiting_in};
+ghost use Rattle.cadence_aggregating.specs.Summed.{AddsQuietly, accepted_in, gone_in, held_in, limits_in, waiting_in};
 ghost use Rattle.cadence_c.specs.Handle.{IsOpenAnd, OnOpen, client_of};
 ghost use Rattle.cadence_c.specs.Status.{status, CADENCE_FULL, CADENCE_NOT_UTF8, CADENCE_NO_CLIENT, CADENCE_NO_MEMORY, CADENCE_OK, IsOkOr};
-ghost use Rattle.cadence_c.specs.Sums.{AddsUp, GivesAll, GivesLines, IsNewSums, HasSummary, LacksRoomForFirst};
+ghost use Rattle.cadence_c.specs.Sums.{AddsLine, AddsUp, GivesAll, GivesLines, IsNewSums, HasSummary, LacksRoomForFirst};
 ghost use Rattle.cadence_c.specs.SumsHandle.{OnBothOpen, keys_of, open_sums_of};
 ghost use Rattle.cadence_c.specs.SumsKeys.{line_of_addend};
 
@@ -32,7 +32,8 @@ pub extern "C" fn cadence_open_sums(
     longest: usize,
     packed: bool,
 ) -> u32
-    ensures made { result ≡ CADENCE_OK → IsSomeAnd (open_sums_of sums.new) IsNewSums }
+    ensures made { result ≡ CADENCE_OK → IsSomeAnd (open_sums_of sums.new)
+        (IsNewSums contexts longest packed) }
     ensures keys { result ≡ CADENCE_OK → keys_of sums.new ≡ Some [] }
     ensures refused { result ≢ CADENCE_OK → open_sums_of sums.new ≡ open_sums_of sums.old }
     ensures statuses { IsOkOr (CADENCE_NO_MEMORY ∷ []) result }
@@ -71,6 +72,8 @@ fn give_waiting(
     ensures accepted { accepted_in lines.new ≡ accepted_in lines.old }
     ensures held { held_in lines.new ≡ held_in lines.old }
     ensures all { OnOk result (waiting_in lines.new ≡ []) }
+    ensures none { waiting_in lines.old ≡ [] →
+        (lines.new ≡ lines.old) × (client.new ≡ client.old) }
     ensures full { status result ≡ CADENCE_FULL → LacksRoomForFirst lines.new client.new }
     ensures statuses { IsOkOr (CADENCE_NO_MEMORY ∷ CADENCE_FULL ∷ []) (status result) }
 {
@@ -98,6 +101,9 @@ fn add(lines: &mut SummedLines, addend: Addend<'_>) -> Result<(), AllocError>
         ≡ accepted_in lines.old ++ line_of_addend addend.entry ∷ []) }
     ensures err { OnErr result (accepted_in lines.new ≡ accepted_in lines.old) }
     ensures gone { gone_in lines.new ≡ gone_in lines.old }
+    ensures limits { limits_in lines.new ≡ limits_in lines.old }
+    ensures quiet { OnOk result (AddsQuietly lines.old (line_of_addend addend.entry)
+        (waiting_in lines.old) (waiting_in lines.new)) }
 {
     match addend {
         Addend::Line(line) => lines.add(line),
@@ -115,7 +121,7 @@ fn add_up(
     addend: Addend<'_>,
 ) -> Result<(), StatusError>
     ensures ok { OnOk result
-        (AddsUp (line_of_addend addend.entry ∷ []) lines.old lines.new client.old client.new) }
+        (AddsLine (line_of_addend addend.entry) lines.old lines.new client.old client.new) }
     ensures err { OnErr result (AddsUp [] lines.old lines.new client.old client.new) }
     ensures full { status result ≡ CADENCE_FULL → LacksRoomForFirst lines.new client.new }
     ensures statuses { IsOkOr (CADENCE_NO_MEMORY ∷ CADENCE_FULL ∷ []) (status result) }
@@ -141,7 +147,7 @@ fn empty(alloc: Global, lines: &mut SummedLines, client: &mut Client) -> Result<
 // Calls `add_up` with the client of a handle, and returns the status.
 fn add_with(alloc: Global, lines: &mut SummedLines, handle: &mut Handle, addend: Addend<'_>) -> u32
     ensures added { result ≡ CADENCE_OK → OnOpen
-        (AddsUp (line_of_addend addend.entry ∷ []) lines.old lines.new) handle.old handle.new }
+        (AddsLine (line_of_addend addend.entry) lines.old lines.new) handle.old handle.new }
     ensures refused { (result ≡ CADENCE_FULL) ⊎ (result ≡ CADENCE_NO_MEMORY) →
         OnOpen (AddsUp [] lines.old lines.new) handle.old handle.new }
     ensures full { result ≡ CADENCE_FULL → IsOpenAnd handle.new (LacksRoomForFirst lines.new) }
@@ -187,7 +193,7 @@ pub extern "C" fn cadence_add_line(
     line: &[u8],
 ) -> u32
     ensures added { result ≡ CADENCE_OK →
-        OnBothOpen (AddsUp (line.now ∷ [])) sums.old sums.new handle.old handle.new }
+        OnBothOpen (AddsLine line.now) sums.old sums.new handle.old handle.new }
     ensures refused { (result ≡ CADENCE_FULL) ⊎ (result ≡ CADENCE_NO_MEMORY) →
         OnBothOpen (AddsUp []) sums.old sums.new handle.old handle.new }
     ensures full { result ≡ CADENCE_FULL →

@@ -1,21 +1,21 @@
 -- Lines that leave sums, and that a packer takes.
-use Rattle.std.proofs.Common.{◌≡◌, ◌<◌, ℕ, List, [], ◌∷◌, ◌++◌, sym, ap, ◌∙◌, subst, arith, take, drop, length}
+use Rattle.std.proofs.Common.{◌≡◌, ℕ, List, [], ◌∷◌, ◌++◌, sym, ap, ◌∙◌, subst, take}
 use Rattle.std.proofs.lemmas.List.{append-nil}
-use Rattle.cadence_aggregating.specs.Summed.{accepted_in, gone_in, waiting_in}
-use Rattle.cadence_aggregating.specs.declared.summed.SummedLines.{SummedLines}
+use Rattle.std.proofs.Math.Logic.{∥∥₁_map}
+use Rattle.cadence_aggregating.specs.Summed.{AddsQuietly, accepted_in, gone_in, waiting_in}
 use Rattle.cadence_flow.specs.Writer.{PacketHistory, WriterKind}
 use Rattle.cadence_send.specs.Sent.{TakesLines}
 use Rattle.cadence_send.specs.Summed.{GivesToPacker, TakesSummed, gives_more, packer_below, sums_of}
 use Rattle.cadence_send.specs.declared.summed.SummedPacker.{SummedPacker}
 
-shorter : (lines : List (List ℕ)) (line : List ℕ) → take 1 lines ≡ line ∷ [] → length (drop 1 lines) < length lines
-shorter [] line h = cc
-shorter (x ∷ lines) line h = omega arith
-
--- Fewer lines wait after the first one is dropped.
-pub fewer_wait : (a b : SummedLines) (line : List ℕ) → take 1 (waiting_in a) ≡ line ∷ [] → waiting_in b ≡ drop 1 (waiting_in a)
-    → length (waiting_in b) < length (waiting_in a)
-fewer_wait a b line first rest = subst (λ ws. length ws < length (waiting_in a)) (sym rest) (shorter (waiting_in a) line first)
+-- If no line waits before a line is added, and none after, the packer stays as it is.
+pub adds_quietly : {T A : Type 0} (line : List ℕ) (p q r t : SummedPacker T A) → (waiting_in (sums_of p) ≡ [] → q ≡ p)
+    → packer_below r ≡ packer_below q
+    → AddsQuietly (sums_of q) line (waiting_in (sums_of q)) (waiting_in (sums_of r)) → (waiting_in (sums_of r) ≡ [] → t ≡ r)
+    → waiting_in (sums_of p) ≡ [] → AddsQuietly (sums_of p) line (packer_below p) (packer_below t)
+adds_quietly line p q r t first kept quiet last none =
+    ∥∥₁_map (subst (λ x. AddsQuietly (sums_of x) line (waiting_in (sums_of x)) (waiting_in (sums_of r))) (first none) quiet)
+    (λ s. (s.0, s.1, λ to_hold can. ap (λ x. packer_below x) (last (s.2 to_hold can ∙ none)) ∙ kept ∙ ap (λ x. packer_below x) (first none)))
 
 module _ {T A : Type 0} (kind : T → WriterKind) (history : T → PacketHistory) where
   -- If the packer takes no line and no more lines are gone, no line left the sums.

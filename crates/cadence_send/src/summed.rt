@@ -1,6 +1,6 @@
 //! Lines that are added up before a packer takes them.
-ghost use Rattle.std.specs.Prelude.{◌≡◌, [], IfOk, OnOk};
-ghost use Rattle.cadence_aggregating.specs.Summed.{accepted_in, gone_in, held_in, waiting_in};
+ghost use Rattle.std.specs.Prelude.{◌≡◌, ◌∷◌, [], IfOk, OnErr, OnOk};
+ghost use Rattle.cadence_aggregating.specs.Summed.{AddsQuietly, accepted_in, gone_in, held_in, limits_in, waiting_in};
 
 use crate::board::LossBoard;
 use crate::error::RunError;
@@ -34,6 +34,7 @@ impl<'a, T: PacketWriter, A: Allocator> SummedPacker<'a, T, A> {
     ) -> Result<SummedPacker<'a, T, A>, AllocError>
         ensures accepted { IfOk result (λ p. accepted_in (sums_of p) ≡ []) }
         ensures gone { IfOk result (λ p. gone_in (sums_of p) ≡ []) }
+        ensures limits { IfOk result (λ p. limits_in (sums_of p) ≡ limits) }
         ensures packer { IfOk result (λ p. packer_below p ≡ lines) }
     {
         Ok(SummedPacker {
@@ -65,6 +66,7 @@ impl<'a, T: PacketWriter, A: Allocator> SummedPacker<'a, T, A> {
         ensures accepted { accepted_in (sums_of self.new) ≡ accepted_in (sums_of self.old) }
         ensures held { held_in (sums_of self.new) ≡ held_in (sums_of self.old) }
         ensures all { OnOk result (waiting_in (sums_of self.new) ≡ []) }
+        ensures none { waiting_in (sums_of self.old) ≡ [] → self.new ≡ self.old }
     {
         while let Some(line) = self.sums.first() {
             self.lines.take(line.as_bytes())?;
@@ -76,7 +78,7 @@ impl<'a, T: PacketWriter, A: Allocator> SummedPacker<'a, T, A> {
 
 /// What is held waits for a flush. A line that the packer refuses waits too, and comes before all others.
 impl<T: PacketWriter, A: Allocator> LineTaker for SummedPacker<'_, T, A> {
-    ghost use Rattle.cadence_send.specs.Summed.{IsAllSent, TakesSummed, summed_more, summed_none};
+    ghost use Rattle.cadence_send.specs.Summed.{IsAllSent, TakesSummed, packer_below, summed_more, summed_none, sums_of};
 
     ghost takes = { TakesSummed T.kind T.history };
 
@@ -86,7 +88,15 @@ impl<T: PacketWriter, A: Allocator> LineTaker for SummedPacker<'_, T, A> {
 
     ghost takes_more = { summed_more T.kind T.history };
 
-    fn take(&mut self, line: &[u8]) -> Result<(), RunError> {
+    // If no line waits, and the line is to be held and can be, the packer stays as it was.
+    fn take(&mut self, line: &[u8]) -> Result<(), RunError>
+        ensures taken { OnOk result
+            (TakesSummed T.kind T.history self.old self.new (line.now ∷ [])) }
+        ensures kept { OnErr result (TakesSummed T.kind T.history self.old self.new []) }
+        ensures quiet { OnOk result (waiting_in (sums_of self.old) ≡ [] →
+            AddsQuietly (sums_of self.old) line.now
+            (packer_below self.old) (packer_below self.new)) }
+    {
         let Ok(text) = str::from_utf8(line) else {
             return Err(RunError::Input(io::Error::from(ErrorKind::InvalidData)));
         };

@@ -1,11 +1,8 @@
-//! Calls by keys, which make no line. A call is held if the context of its key fits the limit of a line.
+//! Calls by keys, which make no line.
 ghost use Rattle.std.specs.Prelude.{◌≡◌, ◌++◌, ◌∷◌, [], OnErr, OnOk};
-ghost use Rattle.cadence_aggregate.specs.Refusals.{after_reply};
 
-use super::{RecordedAggregator, add_or_pass};
-use crate::accepted::Accepted;
-use crate::call::{KeyedCall, context_of, said_by};
-use cadence_aggregate::Fault;
+use super::RecordedAggregator;
+use crate::call::KeyedCall;
 use cadence_errors::SinkError;
 use cadence_flow::MetricSink;
 use cadence_stage::LinelessCall;
@@ -15,23 +12,6 @@ impl<S: MetricSink> RecordedAggregator<S> {
     ghost use Rattle.cadence_aggregating.specs.Causes.{HasCountedCause};
     ghost use Rattle.cadence_aggregating.specs.Quiet.{IsQuiet};
     ghost use Rattle.cadence_aggregating.specs.Recorded.{lines_accepted, aggregator_of, limits_of, refusals_by, lines_taken};
-
-    // Adds what the line of a call says, or hands the line on.
-    fn try_call(&mut self, call: KeyedCall<'_>) -> Result<(), Fault>
-        ensures ok { OnOk result (lines_accepted self.new
-            ≡ lines_accepted self.old ++ line_of_keyed call.entry ∷ []) }
-        ensures err { OnErr result (lines_accepted self.new ≡ lines_accepted self.old) }
-        ensures quiet { OnOk result (∥ IsQuiet (limits_of self.old) (aggregator_of self.old)
-            (line_of_keyed call.entry) (lines_taken self.old) (lines_taken self.new) ∥₁) }
-        ensures refused { refusals_by self.new ≡ after_reply (refusals_by self.old) result }
-    {
-        let context = context_of(call);
-        let said = said_by(call, &mut self.context)?;
-        let is_held = self.limits.holds(&said, context.len());
-        add_or_pass(&mut self.aggregator, &mut self.printer, said, is_held)?;
-        self.accepted = self.accepted.and(&Accepted::of(said));
-        Ok(())
-    }
 
     /// Makes a call by a key, as `add` does with the call's line, but doesn't make the line, unless it has to be handed
     /// on at once.
@@ -47,7 +27,7 @@ impl<S: MetricSink> RecordedAggregator<S> {
             (line_of_keyed call.entry) (lines_taken self.old) (lines_taken self.new) ∥₁) }
         ensures refused { HasCountedCause (refusals_by self.old) (refusals_by self.new) result }
     {
-        match self.try_call(call) {
+        match self.sums.call(&mut self.printer, call) {
             Ok(()) => Ok(()),
             Err(fault) => Err(self.error_of(fault)),
         }

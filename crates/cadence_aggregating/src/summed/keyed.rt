@@ -1,18 +1,15 @@
-//! Calls by keys, which make no line unless it has to wait at once. A call is held if the context of its key fits the
-//! limit of a line.
+//! Calls by keys, which make no line unless it has to wait at once.
 ghost use Rattle.std.specs.Prelude.{◌≡◌, ◌++◌, ◌∷◌, [], OnErr, OnOk};
 
 use super::SummedLines;
-use crate::accepted::Accepted;
-use crate::call::{KeyedCall, context_of, said_by};
+use crate::call::KeyedCall;
 use crate::keys::{CounterKey, GaugeKey};
-use crate::recorded::add_or_pass;
 use std::alloc::AllocError;
 
 impl SummedLines {
     ghost use Rattle.cadence_aggregating.specs.Calls.{line_of_keyed};
     ghost use Rattle.cadence_aggregating.specs.Keys.{line_of_counter, line_of_gauge};
-    ghost use Rattle.cadence_aggregating.specs.Summed.{accepted_in, gone_in};
+    ghost use Rattle.cadence_aggregating.specs.Summed.{AddsQuietly, accepted_in, gone_in, limits_in, waiting_in};
 
     // Adds what the line of a call says.
     fn call(&mut self, call: KeyedCall<'_>) -> Result<(), AllocError>
@@ -20,16 +17,14 @@ impl SummedLines {
             ≡ accepted_in self.old ++ line_of_keyed call.entry ∷ []) }
         ensures err { OnErr result (accepted_in self.new ≡ accepted_in self.old) }
         ensures gone { gone_in self.new ≡ gone_in self.old }
+        ensures limits { limits_in self.new ≡ limits_in self.old }
+        ensures quiet { OnOk result (AddsQuietly self.old (line_of_keyed call.entry)
+            (waiting_in self.old) (waiting_in self.new)) }
     {
-        let context = context_of(call);
-        let said = said_by(call, &mut self.context)?;
-        let is_held = self.limits.holds(&said, context.len());
-        match add_or_pass(&mut self.aggregator, &mut self.waiting, said, is_held) {
-            Ok(()) => {}
-            Err(_fault) => return Err(AllocError),
+        match self.sums.call(&mut self.waiting, call) {
+            Ok(()) => Ok(()),
+            Err(_fault) => Err(AllocError),
         }
-        self.accepted = self.accepted.and(&Accepted::of(said));
-        Ok(())
     }
 
     /// Raises a counter, as `add` does with the counter's line, and lowers it by a negative number.
@@ -41,6 +36,9 @@ impl SummedLines {
             ≡ accepted_in self.old ++ line_of_counter key.now by ∷ []) }
         ensures err { OnErr result (accepted_in self.new ≡ accepted_in self.old) }
         ensures gone { gone_in self.new ≡ gone_in self.old }
+        ensures limits { limits_in self.new ≡ limits_in self.old }
+        ensures quiet { OnOk result (AddsQuietly self.old (line_of_counter key.now by)
+            (waiting_in self.old) (waiting_in self.new)) }
     {
         self.call(KeyedCall::Raise(key, by))
     }
@@ -54,6 +52,9 @@ impl SummedLines {
             ≡ accepted_in self.old ++ line_of_gauge key.now value ∷ []) }
         ensures err { OnErr result (accepted_in self.new ≡ accepted_in self.old) }
         ensures gone { gone_in self.new ≡ gone_in self.old }
+        ensures limits { limits_in self.new ≡ limits_in self.old }
+        ensures quiet { OnOk result (AddsQuietly self.old (line_of_gauge key.now value)
+            (waiting_in self.old) (waiting_in self.new)) }
     {
         self.call(KeyedCall::Set(key, value))
     }

@@ -4,7 +4,7 @@ ghost use Rattle.std.specs.Str.{IsUtf8};
 ghost use Rattle.cadence_aggregating.specs.Keys.{SaysNeither};
 ghost use Rattle.cadence_c.specs.Handle.{IsOpenAnd, OnOpen, client_of};
 ghost use Rattle.cadence_c.specs.Status.{CADENCE_FULL, CADENCE_INVALID, CADENCE_NOT_UTF8, CADENCE_NO_CLIENT, CADENCE_NO_MEMORY, CADENCE_OK, IsOkOr, status};
-ghost use Rattle.cadence_c.specs.Sums.{AddsUp, HasSummary, LacksRoomForFirst};
+ghost use Rattle.cadence_c.specs.Sums.{AddsLine, AddsUp, HasSummary, LacksRoomForFirst};
 ghost use Rattle.cadence_c.specs.SumsHandle.{OnBothOpen, keys_of, open_sums_of};
 ghost use Rattle.cadence_c.specs.SumsKeys.{GetsKey, HasKeyMore, line_by_key, line_by_handle, line_of_addend};
 
@@ -88,7 +88,7 @@ fn addend_by(keys: &[LineKey], key: usize, number: i64) -> Option<Addend<'_>>
 fn add_by(alloc: Global, sums: &mut Sums, handle: &mut Handle, key: usize, number: i64) -> u32
     ensures added { result ≡ CADENCE_OK →
         IsSomeAnd (line_by_key sums.old.keys.items key number) (λ line. OnOpen
-        (AddsUp (line ∷ []) sums.old.lines sums.new.lines) handle.old handle.new) }
+        (AddsLine line sums.old.lines sums.new.lines) handle.old handle.new) }
     ensures refused { (result ≡ CADENCE_FULL) ⊎ (result ≡ CADENCE_NO_MEMORY) →
         OnOpen (AddsUp [] sums.old.lines sums.new.lines) handle.old handle.new }
     ensures full { result ≡ CADENCE_FULL →
@@ -120,7 +120,7 @@ pub extern "C" fn cadence_add_number(
 ) -> u32
     ensures added { result ≡ CADENCE_OK →
         IsSomeAnd (line_by_handle sums.old key number) (λ line. OnBothOpen
-        (AddsUp (line ∷ [])) sums.old sums.new handle.old handle.new) }
+        (AddsLine line) sums.old sums.new handle.old handle.new) }
     ensures refused { (result ≡ CADENCE_FULL) ⊎ (result ≡ CADENCE_NO_MEMORY) →
         OnBothOpen (AddsUp []) sums.old sums.new handle.old handle.new }
     ensures full { result ≡ CADENCE_FULL →

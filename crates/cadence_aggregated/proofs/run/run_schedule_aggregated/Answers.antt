@@ -18,7 +18,7 @@ returns-in-Ok-clause-headline g c =
     let s = c.run_steps.ensures.so_far in (
       s.all,
       subst (λ a. HasAggregated history_of given (outcome_shown c.report_of.result) (held a) s.all) (sym ended.aggregator)
-          (subst (λ o. HasAggregated history_of given o (held run.sums.aggregator) s.all) (sym ended.outcome)
+          (subst (λ o. HasAggregated history_of given o (held run.sums.lines.aggregator) s.all) (sym ended.outcome)
           (has_aggregated kind_of history_of c.args.settings.now c.args.capacity c.args.ending.now c.args.queue c.args.policy c.args.steps.now c.args.writer
           c.no_line_is_empty.ensures c.tight_is_fewest.ensures c.in-Ok.running run c.run_steps.new.replies start s c.run_steps.ensures.one_each
           c.in-Ok.ensures.few

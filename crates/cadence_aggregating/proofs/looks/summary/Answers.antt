@@ -12,4 +12,4 @@ returns g c =
     let same : accepted ≡ lines_in_calls (calls_at c.args.look.now) =
     sym (without_lengths accepted) ∙ ap (map (λ (taken : List ℕ × ℕ). taken.0)) c.took.ensures in
     subst (λ (lines : List (List ℕ)). ∥ Summarizes lines (lines_taken a) (samples_held a) ∥₁) same
-    (past_shows a.limits.most_bytes accepted a.printer.notes.items (samples_held a) a.past)
+    (past_shows a.sums.limits.most_bytes accepted a.printer.notes.items (samples_held a) a.past)

@@ -6,4 +6,5 @@ use Rattle.cadence_c.proofs.sums.keyed.cadence_add_number.Goals as goal
 pub returns-clause-summary : goal.returns-clause-summary
 returns-clause-summary c =
     subst (λ sums. IfSome (option_map (λ s. s.lines) sums) HasSummary) (sym c.put.ensures)
-    (subst (λ s. HasSummary s.lines) c.deref.ensures c.keeps_the_record.ensures)
+    (subst (λ s. HasSummary s.lines) c.deref.ensures
+    (record { summary = c.keeps_the_record.ensures.summary; origins = c.keeps_the_record.ensures.origins }))

@@ -1,4 +1,4 @@
-use Rattle.std.proofs.Common.{◌≡◌, length}
+use Rattle.std.proofs.Common.{◌≡◌, [], length}
 use Rattle.cadence_aggregating.specs.Summed.{accepted_in, held_in, waiting_in}
 use Rattle.cadence_send.specs.Summed.{GivesToPacker, sums_of}
 use Rattle.cadence_send.proofs.summed.SummedPacker.give_waiting.Given as goal
@@ -11,3 +11,4 @@ invariant-loop-line g l =
     GivesToPacker g.T.PacketWriter.kind g.T.PacketWriter.history l.initial.self l.self
     × (accepted_in (sums_of l.self) ≡ accepted_in (sums_of l.initial.self))
     × (held_in (sums_of l.self) ≡ held_in (sums_of l.initial.self))
+    × (waiting_in (sums_of l.initial.self) ≡ [] → l.self ≡ l.initial.self)

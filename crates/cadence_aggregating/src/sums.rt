@@ -1,0 +1,139 @@
+//! Lines that are added up, over any sink of what they say. `called` has the calls that make no line.
+mod called;
+
+ghost use Rattle.std.specs.Prelude.{◌≡◌, ◌++◌, ◌∷◌, [], IfOk, OnErr, OnOk, length, true};
+ghost use Rattle.cadence_aggregate.specs.Aggregate.{CanHold, held};
+ghost use Rattle.cadence_aggregate.specs.Lines.{samples_of};
+ghost use Rattle.cadence_aggregate.specs.Refusals.{after_reply};
+ghost use Rattle.cadence_aggregate.specs.Server.{IsSummary};
+ghost use Rattle.cadence_aggregate.specs.Within.{StayWithin, if_ok};
+
+use crate::accepted::Accepted;
+use crate::limits::Limits;
+use crate::said::read_said;
+use cadence_aggregate::{Aggregator, Fault, Line, LineSink};
+use cadence_stage::GhostList;
+use std::alloc::{AllocError, Global};
+
+/// Adds up lines. Each call is given the sink to which it sends what it can't hold. The accepted lines are recorded for
+/// proofs only: what the sink took, with what is held, is a summary of them (`HasSummary`), and each call keeps it so.
+#[derive(Drop)]
+pub struct Sums {
+    alloc: Global,
+    limits: Limits,
+    aggregator: Aggregator,
+    context: String,
+    accepted: GhostList<Accepted>,
+    pub ghost limit: { aggregator.most_bytes ≡ limits.most_bytes },
+}
+
+// Adds what a line says, or hands the line on.
+fn add_or_pass<S: LineSink>(
+    aggregator: &mut Aggregator,
+    sink: &mut S,
+    said: Line<'_>,
+    is_held: bool,
+) -> Result<(), Fault>
+    ensures ok { OnOk result (IsSummary
+        ((S.sent sink.old ++ held aggregator.old) ++ samples_of said.entry)
+        (S.sent sink.new ++ held aggregator.new)) }
+    ensures err { OnErr result (IsSummary
+        (S.sent sink.old ++ held aggregator.old) (S.sent sink.new ++ held aggregator.new)) }
+    ensures quiet { is_held ≡ true → CanHold aggregator.old said.entry →
+        S.sent sink.new ≡ S.sent sink.old }
+    ensures refused { S.refusals sink.new ≡ after_reply (S.refusals sink.old) result }
+    ensures leads { S.leads sink.old sink.new }
+    ensures limit { aggregator.new.most_bytes ≡ aggregator.old.most_bytes }
+    ensures within { StayWithin aggregator.old.most_bytes
+        ((S.sent sink.old ++ held aggregator.old) ++ if_ok result (samples_of said.entry))
+        (S.sent sink.new ++ held aggregator.new) }
+{
+    if is_held {
+        aggregator.add(sink, said)
+    } else {
+        aggregator.pass(sink, said)
+    }
+}
+
+impl Sums {
+    ghost use Rattle.cadence_aggregate.specs.Server.{Sample};
+    ghost use Rattle.cadence_aggregating.specs.Quiet.{IsQuiet};
+    ghost use Rattle.cadence_aggregating.specs.Says.{LineSays};
+    ghost use Rattle.cadence_aggregating.specs.Sums.{HasSummary, KeepsSummary, accepted_by, aggregator_of, held_by, limits_of};
+
+    /// Makes sums of no line. The only error is that memory ran out.
+    pub fn new(alloc: Global, limits: Limits) -> Result<Sums, AllocError>
+        ensures accepted { IfOk result (λ s. accepted_by s ≡ []) }
+        ensures held { IfOk result (λ s. held_by s ≡ []) }
+        ensures limits { IfOk result (λ s. limits_of s ≡ limits) }
+        ensures summary { IfOk result (λ s. HasSummary s []) }
+    {
+        let aggregator = Aggregator::new(alloc, limits.most_contexts, limits.most_bytes)?;
+        Ok(Sums {
+            alloc,
+            limits,
+            aggregator,
+            context: String::new(alloc),
+            accepted: GhostList::new(),
+        })
+    }
+
+    /// Adds what a line says to what is held of its context, or hands the line on. A line that can't be added is handed
+    /// on, and so is one that is longer than the limit.
+    ///
+    /// # Errors
+    /// `Refused` if the sink refused a line that had to be sent, and `OutOfMemory`. After an error the line is not
+    /// added, and what was held is sent or still held.
+    pub fn add<S: LineSink>(&mut self, sink: &mut S, line: &str) -> Result<(), Fault>
+        ensures ok { OnOk result (accepted_by self.new ≡ accepted_by self.old ++ line.now ∷ []) }
+        ensures err { OnErr result (accepted_by self.new ≡ accepted_by self.old) }
+        ensures said { OnOk result ((said : Sample) × LineSays line.now said × IsSummary
+            ((S.sent sink.old ++ held_by self.old) ++ said ∷ [])
+            (S.sent sink.new ++ held_by self.new)) }
+        ensures unsaid { OnErr result (IsSummary
+            (S.sent sink.old ++ held_by self.old) (S.sent sink.new ++ held_by self.new)) }
+        ensures summary { KeepsSummary self.old self.new (S.sent sink.old) (S.sent sink.new) }
+        ensures quiet { OnOk result (∥ IsQuiet (limits_of self.old) (aggregator_of self.old)
+            line.now (S.sent sink.old) (S.sent sink.new) ∥₁) }
+        ensures refused { S.refusals sink.new ≡ after_reply (S.refusals sink.old) result }
+        ensures leads { S.leads sink.old sink.new }
+        ensures limits { limits_of self.new ≡ limits_of self.old }
+    {
+        let said = read_said(self.alloc, line, &mut self.context)?;
+        let is_held = self.limits.holds(&said, line.len());
+        add_or_pass(&mut self.aggregator, sink, said, is_held)?;
+        self.accepted = self.accepted.and(&Accepted::of(Line::Other(line)));
+        Ok(())
+    }
+
+    /// Sends one line for each context that is held, and forgets it.
+    ///
+    /// # Errors
+    /// `Refused` if the sink refused a line, and `OutOfMemory`. What was not sent is still held.
+    pub fn flush<S: LineSink>(&mut self, sink: &mut S) -> Result<(), Fault>
+        ensures ok { OnOk result (held_by self.new ≡ []) }
+        ensures same { S.sent sink.new ++ held_by self.new ≡ S.sent sink.old ++ held_by self.old }
+        ensures accepted { accepted_by self.new ≡ accepted_by self.old }
+        ensures summary { KeepsSummary self.old self.new (S.sent sink.old) (S.sent sink.new) }
+        ensures refused { S.refusals sink.new ≡ after_reply (S.refusals sink.old) result }
+        ensures leads { S.leads sink.old sink.new }
+        ensures limits { limits_of self.new ≡ limits_of self.old }
+    {
+        self.aggregator.flush(sink)
+    }
+
+    /// Returns how many contexts are held.
+    pub fn count_held(&self) -> u128
+        ensures { result ≡ length (held_by self.now) }
+    {
+        self.aggregator.count_held()
+    }
+
+    /// Returns what is held, and forgets the rest.
+    pub fn into_aggregator(self) -> Aggregator
+        ensures { result ≡ aggregator_of self }
+    {
+        let Sums { aggregator, .. } = self;
+        aggregator
+    }
+}

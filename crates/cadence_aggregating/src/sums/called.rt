@@ -1,0 +1,42 @@
+//! Calls by keys, which make no line. A call is held if the context of its key fits the limit of a line.
+ghost use Rattle.std.specs.Prelude.{◌≡◌, ◌++◌, ◌∷◌, [], OnErr, OnOk};
+ghost use Rattle.cadence_aggregate.specs.Refusals.{after_reply};
+
+use super::{Sums, add_or_pass};
+use crate::accepted::Accepted;
+use crate::call::{KeyedCall, context_of, said_by};
+use cadence_aggregate::{Fault, LineSink};
+
+impl Sums {
+    ghost use Rattle.cadence_aggregating.specs.Calls.{line_of_keyed};
+    ghost use Rattle.cadence_aggregating.specs.Quiet.{IsQuiet};
+    ghost use Rattle.cadence_aggregating.specs.Sums.{KeepsSummary, accepted_by, aggregator_of, limits_of};
+
+    /// Makes a call by a key, as `add` does with the call's line, but doesn't make the line, unless it has to be handed
+    /// on at once.
+    ///
+    /// # Errors
+    /// As of `add`. After an error the call did nothing, and what was held is sent or still held.
+    pub(crate) fn call<S: LineSink>(
+        &mut self,
+        sink: &mut S,
+        call: KeyedCall<'_>,
+    ) -> Result<(), Fault>
+        ensures ok { OnOk result (accepted_by self.new
+            ≡ accepted_by self.old ++ line_of_keyed call.entry ∷ []) }
+        ensures err { OnErr result (accepted_by self.new ≡ accepted_by self.old) }
+        ensures summary { KeepsSummary self.old self.new (S.sent sink.old) (S.sent sink.new) }
+        ensures quiet { OnOk result (∥ IsQuiet (limits_of self.old) (aggregator_of self.old)
+            (line_of_keyed call.entry) (S.sent sink.old) (S.sent sink.new) ∥₁) }
+        ensures refused { S.refusals sink.new ≡ after_reply (S.refusals sink.old) result }
+        ensures leads { S.leads sink.old sink.new }
+        ensures limits { limits_of self.new ≡ limits_of self.old }
+    {
+        let context = context_of(call);
+        let said = said_by(call, &mut self.context)?;
+        let is_held = self.limits.holds(&said, context.len());
+        add_or_pass(&mut self.aggregator, sink, said, is_held)?;
+        self.accepted = self.accepted.and(&Accepted::of(said));
+        Ok(())
+    }
+}
