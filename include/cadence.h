@@ -61,8 +61,8 @@
  * - cadence_format_signed, cadence_format_unsigned, cadence_format_decimal, cadence_format_floating,
  *   cadence_format_duration: the above for the values, the above for the rest of the call, CADENCE_TOO_SMALL.
  * - cadence_decimal_of_double, cadence_rounded_of_double: CADENCE_INVALID.
- * - cadence_destination, cadence_environment_tags, cadence_environment_prefix: CADENCE_VARIABLE, CADENCE_NO_MEMORY,
- *   CADENCE_TOO_SMALL.
+ * - cadence_destination, cadence_environment_tags, cadence_environment_prefix, cadence_environment_container:
+ *   CADENCE_VARIABLE, CADENCE_NO_MEMORY, CADENCE_TOO_SMALL.
  *   cadence_variable_text: CADENCE_INVALID, CADENCE_NO_MEMORY, CADENCE_TOO_SMALL.
  * - cadence_prefix_text: CADENCE_NOT_UTF8, CADENCE_NO_MEMORY, CADENCE_SEPARATOR, CADENCE_TOO_SMALL. cadence_tags_text:
  *   CADENCE_NOT_UTF8, CADENCE_SEPARATOR, CADENCE_NO_MEMORY, CADENCE_TOO_SMALL. cadence_test_text: the first two of
@@ -457,8 +457,9 @@ uint32_t cadence_rounded_of_double(double value, cadence_decimal_number *number)
 
 /* The values of the variables of the environment: DD_DOGSTATSD_URL, DD_DOGSTATSD_SOCKET, DD_AGENT_HOST,
  * DD_DOGSTATSD_PORT, STATSD_HOST, STATSD_PORT, DD_ENV, DD_SERVICE, DD_VERSION, DD_TAGS, DD_ENTITY_ID,
- * DD_DOGSTATSD_DISABLE, STATSD_ENABLED, STATSD_MAXUDPSIZE and STATSD_PREFIX. A variable that isn't set has the empty
- * text. The number of a variable is its place here, from 0 on; cadence_variable_name returns its name. */
+ * DD_DOGSTATSD_DISABLE, STATSD_ENABLED, STATSD_MAXUDPSIZE, STATSD_PREFIX and DD_ORIGIN_DETECTION_ENABLED. A variable
+ * that isn't set has the empty text. The number of a variable is its place here, from 0 on; cadence_variable_name returns
+ * its name. */
 typedef struct cadence_variables {
     const uint8_t *url;
     size_t url_len;
@@ -490,6 +491,8 @@ typedef struct cadence_variables {
     size_t max_size_len;
     const uint8_t *prefix;
     size_t prefix_len;
+    const uint8_t *origin;
+    size_t origin_len;
 } cadence_variables;
 
 /* Writes where the variables say to send into `out`, and sets *length to the length of that text in bytes: a host,
@@ -514,6 +517,15 @@ uint32_t cadence_environment_tags(const cadence_variables *variables, uint8_t *o
  * ',', '|' or newline, and is empty by default. It is meant for a caller that has no prefix of its own. */
 uint32_t cadence_environment_prefix(const cadence_variables *variables, uint8_t *out, size_t out_len, size_t *length,
                                     uint32_t *variable);
+
+/* Writes the default container of a client into `out`, and returns what cadence_destination returns. It is empty unless
+ * DD_ORIGIN_DETECTION_ENABLED says yes. Then it is the container of the process: the id that the first of the lines of
+ * `cgroup` has at its end, or before a `.scope` there, which is 64 digits in hexadecimal, 32 of them with a dash and a
+ * number, or the groups of a UUID. If no line has one and `inode` is not 0, it is `in-` and that number. `cgroup` is what
+ * the file /proc/self/cgroup has, and `inode` the number of the directory of the process below /sys/fs/cgroup, or 0 if the
+ * process is in the control groups of the host. It is meant for a caller that has no container of its own. */
+uint32_t cadence_environment_container(const cadence_variables *variables, const uint8_t *cgroup, size_t cgroup_len,
+                                       uint64_t inode, uint8_t *out, size_t out_len, size_t *length, uint32_t *variable);
 
 /* Writes the message for a variable that can't be used into `out`: its name, and what its value has to be. Sets *length
  * to the length of that text in bytes. Returns CADENCE_OK; CADENCE_TOO_SMALL, with that length; or CADENCE_INVALID or
@@ -560,21 +572,21 @@ static inline const char *cadence_variable_name(uint32_t variable) {
     static const char *const names[] = { "DD_DOGSTATSD_URL", "DD_DOGSTATSD_SOCKET", "DD_AGENT_HOST", "DD_DOGSTATSD_PORT",
                                          "STATSD_HOST",      "STATSD_PORT",         "DD_ENV",        "DD_SERVICE",
                                          "DD_VERSION",       "DD_TAGS",             "DD_ENTITY_ID",  "DD_DOGSTATSD_DISABLE",
-                                         "STATSD_ENABLED",   "STATSD_MAXUDPSIZE",   "STATSD_PREFIX" };
+                                         "STATSD_ENABLED",   "STATSD_MAXUDPSIZE",   "STATSD_PREFIX", "DD_ORIGIN_DETECTION_ENABLED" };
     return variable < sizeof names / sizeof names[0] ? names[variable] : CADENCE_NULL;
 }
 
 /* Returns the values of the variables, each as a function returns it for its name, or null if it isn't set: for example
  * getenv. They point to the values, so keep these alive. */
 static inline cadence_variables cadence_variables_of(char *(*value_of)(const char *name)) {
-    const char *at[15];
-    for (uint32_t i = 0; i < 15; i++) at[i] = value_of(cadence_variable_name(i));
+    const char *at[16];
+    for (uint32_t i = 0; i < 16; i++) at[i] = value_of(cadence_variable_name(i));
     cadence_variables variables;
 #define CADENCE_SET(field, i) (variables.field = CADENCE_BYTES(at[i]), variables.field##_len = cadence_length_of(at[i]))
     CADENCE_SET(url, 0), CADENCE_SET(socket, 1), CADENCE_SET(agent_host, 2), CADENCE_SET(agent_port, 3);
     CADENCE_SET(statsd_host, 4), CADENCE_SET(statsd_port, 5), CADENCE_SET(env, 6), CADENCE_SET(service, 7);
     CADENCE_SET(version, 8), CADENCE_SET(tags, 9), CADENCE_SET(entity_id, 10), CADENCE_SET(disable, 11);
-    CADENCE_SET(enabled, 12), CADENCE_SET(max_size, 13), CADENCE_SET(prefix, 14);
+    CADENCE_SET(enabled, 12), CADENCE_SET(max_size, 13), CADENCE_SET(prefix, 14), CADENCE_SET(origin, 15);
 #undef CADENCE_SET
     return variables;
 }

@@ -1,12 +1,13 @@
 /* SPDX-License-Identifier: Apache-2.0 OR MIT */
-/* environment FILE: tests what the variables of the environment say by the rows of a file, environment.rows. It
- * prints each row of which the library says something else, and its exit status is then 1. */
+/* environment FILE CONTAINERS: tests what the variables of the environment say by the rows of a file, environment.rows, and
+ * the container of a process by those of another one, containers.rows. It prints each row of which the library says
+ * something else, and its exit status is then 1. */
 #include <cadence.h>
 #include <stdio.h>
 #include <stdlib.h>
 #include <string.h>
 
-enum { LONGEST = 4096, VARIABLES = 15 };
+enum { LONGEST = 4096, VARIABLES = 16 };
 
 static char values[VARIABLES][LONGEST];
 static bool is_set[VARIABLES];
@@ -64,7 +65,7 @@ static void put_tags(char *to, const char *text, size_t len) {
 /* Writes what the variables say as a row has it. */
 static void say(char *to) {
     uint8_t place[256], tags[LONGEST], prefix[256], words[256];
-    size_t place_len, tags_len, prefix_len, words_len, capacity = 0;
+    size_t place_len, tags_len, prefix_len, words_len, id_len, capacity = 0;
     uint16_t port = 1;
     uint32_t variable = VARIABLES;
     const cadence_variables variables = cadence_variables_of(value_of);
@@ -73,6 +74,8 @@ static void say(char *to) {
         status = cadence_environment_prefix(&variables, prefix, sizeof prefix, &prefix_len, &variable);
     if (status == CADENCE_OK)
         status = cadence_environment_tags(&variables, tags, sizeof tags, &tags_len, &variable);
+    if (status == CADENCE_OK)
+        status = cadence_environment_container(&variables, NULL, 0, 0, NULL, 0, &id_len, &variable);
     if (status == CADENCE_VARIABLE && cadence_variable_text(variable, words, sizeof words, &words_len) == CADENCE_OK
         && memcmp(words, cadence_variable_name(variable), strlen(cadence_variable_name(variable))) == 0)
         sprintf(to, "refuses %s", cadence_variable_name(variable));
@@ -86,23 +89,53 @@ static void say(char *to) {
     }
 }
 
-int main(int argc, char **argv) {
+/* Writes what the library says of a row of containers.rows, whose number and text these are, as the row has it. */
+static void say_container(char *to, char *given) {
+    static char text[LONGEST];
+    uint8_t id[128];
+    size_t len = 1;
+    uint32_t variable = VARIABLES;
+    char *end;
+    const uint64_t inode = strtoull(given, &end, 10);
+    unescape(text, end + 1, strlen(end + 1));
+    memset(is_set, 0, sizeof is_set);
+    const cadence_variables off = cadence_variables_of(value_of);
+    is_set[VARIABLES - 1] = true;
+    strcpy(values[VARIABLES - 1], "true");
+    const cadence_variables on = cadence_variables_of(value_of);
+    uint32_t status = cadence_environment_container(&off, CADENCE_BYTES(text), strlen(text), inode, id, sizeof id, &len, &variable);
+    if (status == CADENCE_OK && len == 0)
+        status = cadence_environment_container(&on, CADENCE_BYTES(text), strlen(text), inode, id, sizeof id, &len, &variable);
+    if (status != CADENCE_OK) sprintf(to, "status %u", status);
+    else sprintf(to, len != 0 ? "%.*s" : "none%.*s", (int)len, (char *)id);
+}
+
+/* Tests each row of a file, and returns how many differ, or -1 if fewer rows than these are there. */
+static int test_rows(const char *name, int least, bool has_containers) {
     static char row[LONGEST], wanted[LONGEST], said[2 * LONGEST];
-    FILE *file = argc == 2 ? fopen(argv[1], "r") : NULL;
+    FILE *file = fopen(name, "r");
     int rows = 0, failures = 0;
-    if (file == NULL) return 2;
+    if (file == NULL) return -1;
     while (fgets(row, sizeof row, file) != NULL) {
         row[strcspn(row, "\n")] = '\0';
         if (row[0] == '\0' || row[0] == '#') continue;
         char *arrow = strstr(row, " <- ");
         if (strstr(row, "\\x00") != NULL) continue; /* the environment of a process has no such byte */
         if (arrow != NULL) *arrow = '\0';
-        if (!set_variables(arrow != NULL ? arrow + 4 : "")) return 3;
+        if (has_containers) say_container(said, arrow + 4);
+        else if (set_variables(arrow != NULL ? arrow + 4 : "")) say(said);
+        else return -1;
         unescape(wanted, row, strlen(row));
-        say(said);
         rows++;
         if (strcmp(wanted, said) != 0) failures++, printf("%s <- %s\n  is %s\n", row, arrow != NULL ? arrow + 4 : "", said);
     }
+    fclose(file);
     printf("%d rows, %d differ\n", rows, failures);
-    return failures != 0 || rows < 250;
+    return rows < least ? -1 : failures;
+}
+
+int main(int argc, char **argv) {
+    if (argc != 3) return 2;
+    const int differ = test_rows(argv[1], 250, false), others = test_rows(argv[2], 45, true);
+    return differ != 0 || others != 0;
 }

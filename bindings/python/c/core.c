@@ -370,6 +370,8 @@ static PyModuleDef_Slot parts[] = { { Py_mod_exec, fill }, { 0, NULL }, { 0, NUL
 static PyMethodDef functions[] = {
     { "destination", destination, METH_VARARGS, "destination(*values): the host and the port that the variables say, or a path and 0, and how many bytes a packet has." },
     { "environment_prefix", environment_prefix, METH_VARARGS, "environment_prefix(*values): the prefix that the variables say, 0 and 0." },
+    { "environment_container", environment_container, METH_VARARGS,
+      "environment_container(groups, inode, *values): the text of the default container, 0 and 0." },
     { "environment_tags", environment_tags, METH_VARARGS, "environment_tags(*values): the text of the tags that the variables say, 0 and 0." },
     { NULL, NULL, 0, NULL },
 };

@@ -65,6 +65,7 @@ PyObject *refused_by(const char *module, const char *name, PyObject *arguments);
 PyObject *destination(PyObject *module, PyObject *values);
 PyObject *environment_prefix(PyObject *module, PyObject *values);
 PyObject *environment_tags(PyObject *module, PyObject *values);
+PyObject *environment_container(PyObject *module, PyObject *arguments);
 
 /* process.c: the number of this process, which differs from that of each process of which it is a fork, and what has to be
  * called once before. */

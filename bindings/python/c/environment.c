@@ -6,10 +6,10 @@
 
 /* Reads the values of the variables, which are bytes, in the order of cadence.h. Returns false if it has set an exception. */
 static bool read_variables(PyObject *values, cadence_variables *to) {
-    return PyArg_ParseTuple(values, "y#y#y#y#y#y#y#y#y#y#y#y#y#y#y#", TEXT(url), TEXT(socket), TEXT(agent_host), TEXT(agent_port),
+    return PyArg_ParseTuple(values, "y#y#y#y#y#y#y#y#y#y#y#y#y#y#y#y#", TEXT(url), TEXT(socket), TEXT(agent_host), TEXT(agent_port),
                             TEXT(statsd_host), TEXT(statsd_port), TEXT(env), TEXT(service), TEXT(version), TEXT(tags),
                             TEXT(entity_id), TEXT(disable), TEXT(enabled), TEXT(max_size),
-                            TEXT(prefix));
+                            TEXT(prefix), TEXT(origin));
 }
 
 /* Sets a VariableError, or a MemoryError. */
@@ -22,11 +22,18 @@ static PyObject *refused(uint32_t status, uint32_t variable) {
                       Py_BuildValue("(ss#)", cadence_variable_name(variable), (const char *)text, (Py_ssize_t)len));
 }
 
-enum what { PLACE, PREFIX, TAGS };
+enum what { PLACE, PREFIX, TAGS, CONTAINER };
 
-/* Returns the text of the tags or of the prefix, 0 and 0, or where to send: the host and the port, or a path and 0, or an
+/* What the system says of the control groups of the process. */
+struct groups {
+    const char *text;
+    Py_ssize_t len;
+    unsigned long long inode;
+};
+
+/* Returns the text of the tags, of the prefix or of the container, 0 and 0, or where to send: the host and the port, or a path and 0, or an
  * empty text and 0, with the number of bytes that a packet has. */
-static PyObject *said(PyObject *values, enum what what) {
+static PyObject *said(PyObject *values, enum what what, const struct groups *groups) {
     cadence_variables variables;
     uint32_t variable = 0, status = CADENCE_TOO_SMALL;
     uint16_t port = 0;
@@ -38,6 +45,9 @@ static PyObject *said(PyObject *values, enum what what) {
         text = more;
         room = len;
         status = what == TAGS     ? cadence_environment_tags(&variables, text, room, &len, &variable)
+                 : what == CONTAINER
+                     ? cadence_environment_container(&variables, (const uint8_t *)groups->text, (size_t)groups->len,
+                                                     groups->inode, text, room, &len, &variable)
                  : what == PREFIX ? cadence_environment_prefix(&variables, text, room, &len, &variable)
                                   : cadence_destination(&variables, text, room, &len, &port, &capacity, &variable);
     }
@@ -49,15 +59,27 @@ static PyObject *said(PyObject *values, enum what what) {
 
 PyObject *destination(PyObject *module, PyObject *values) {
     (void)module;
-    return said(values, PLACE);
+    return said(values, PLACE, NULL);
 }
 
 PyObject *environment_prefix(PyObject *module, PyObject *values) {
     (void)module;
-    return said(values, PREFIX);
+    return said(values, PREFIX, NULL);
 }
 
 PyObject *environment_tags(PyObject *module, PyObject *values) {
     (void)module;
-    return said(values, TAGS);
+    return said(values, TAGS, NULL);
+}
+
+PyObject *environment_container(PyObject *module, PyObject *arguments) {
+    struct groups groups;
+    PyObject *head = PyTuple_GetSlice(arguments, 0, 2), *values = NULL, *made = NULL;
+    (void)module;
+    if (head != NULL && PyArg_ParseTuple(head, "y#K", &groups.text, &groups.len, &groups.inode)
+        && (values = PyTuple_GetSlice(arguments, 2, PyTuple_Size(arguments))) != NULL)
+        made = said(values, CONTAINER, &groups);
+    Py_XDECREF(head);
+    Py_XDECREF(values);
+    return made;
 }

@@ -13,8 +13,9 @@ from statsd_proved import StatsClient, StatusError, VariableError, environment
 
 BINDINGS = pathlib.Path(__file__).resolve().parents[2]
 # an archive has the file beside this package, and the repository has it where its own test reads it
-PLACES = BINDINGS / "environment.rows", BINDINGS.parent / "crates/test_calls/data/environment.rows"
-ROWS = next((place for place in PLACES if place.exists()), PLACES[0])
+FOLDERS = BINDINGS, BINDINGS.parent / "crates/test_calls/data"
+FOLDER = next((folder for folder in FOLDERS if (folder / "environment.rows").exists()), FOLDERS[0])
+ORIGIN = b"DD_ORIGIN_DETECTION_ENABLED"
 
 
 def value(text):
@@ -40,12 +41,37 @@ def shown(given):
     if prefix := environment.prefix(given):
         target += f" as {prefix}"
     tags = [tag if isinstance(tag, str) else "=".join(tag) for tag in environment.tags(given)]
+    environment.container(given)
     return " | ".join([target, *tags]).encode()
 
 
+def rows_of(name):
+    """Returns the rows of a file."""
+    return [row for row in (FOLDER / name).read_text().splitlines() if row and not row.startswith("#")]
+
+
 class Rows(unittest.TestCase):
+    def test_each_container_is_found(self):
+        rows = rows_of("containers.rows")
+        self.assertGreaterEqual(len(rows), 45)
+        for row in rows:
+            wanted, _, given = row.partition(" <- ")
+            inode, _, text = given.partition(" ")
+            with self.subTest(row=row), mock.patch.object(environment, "_groups", lambda: value(text)), \
+                    mock.patch.object(environment, "_inode", lambda groups: int(inode)):
+                wanted = None if wanted == "none" else wanted
+                self.assertEqual(environment.container({ORIGIN: b"true"}), wanted)
+                self.assertEqual(environment.container({}, True), wanted)
+                self.assertEqual(environment.container({ORIGIN: b"0"}, True), wanted)
+                for off in (b"", b"0", b"false", b"False", b"no"):
+                    self.assertIsNone(environment.container({ORIGIN: off}))
+                self.assertIsNone(environment.container({ORIGIN: b"1"}, False))
+        with self.assertRaises(VariableError) as raised:
+            environment.container({ORIGIN: b"on"})
+        self.assertEqual(raised.exception.variable, ORIGIN.decode())
+
     def test_each_row_is_read(self):
-        rows = [row for row in ROWS.read_text().splitlines() if row and not row.startswith("#")]
+        rows = rows_of("environment.rows")
         self.assertGreater(len(rows), 250)
         for row in rows:
             wanted, _, given = row.partition(" <- ")

@@ -2,13 +2,19 @@
 //! What the variables of the environment say about a client.
 use crate::client::{StatsdClient, StatsdClientBuilder};
 use crate::layout::{Variables, VARIABLES};
-use crate::raw::{destination, environment_prefix, environment_tags, variable_text};
+use crate::raw::{destination, environment_container, environment_prefix, environment_tags, variable_text};
 use crate::sinks::{Buffer, BufferedUnixMetricSink, HostSink, NopMetricSink, Periods};
 use crate::types::MetricResult;
 use std::ffi::OsString;
 use std::net::IpAddr;
+use std::os::unix::ffi::OsStrExt;
+use std::os::unix::fs::MetadataExt;
 use std::os::unix::net::UnixDatagram;
-use std::{env, error, fmt};
+use std::path::Path;
+use std::{env, error, fmt, fs};
+
+/// The number of the control groups of the host.
+const HOST: u64 = 4_026_531_835;
 
 /// Where a client sends.
 #[derive(Clone, Debug, PartialEq, Eq)]
@@ -38,6 +44,7 @@ pub enum Target {
 /// | `DD_ENV`, `DD_SERVICE`, `DD_VERSION` | the tags `env:..`, `service:..` and `version:..`, in this order |
 /// | `DD_TAGS` | the next tags, separated by commas, or by spaces if it has no comma; each is `K:V`, cut at its first colon, or `V` |
 /// | `DD_ENTITY_ID` | the last tag, `dd.internal.entity_id:..` |
+/// | `DD_ORIGIN_DETECTION_ENABLED` | the default container, which is that of the process, if it says `1`, `true`, `True` or `yes` |
 ///
 /// Of a host and a port, one alone leaves the other as it is by default: 127.0.0.1 and 8125. A tag of `DD_TAGS` with the
 /// key `env`, `service` or `version` is left out if `DD_ENV`, `DD_SERVICE` or `DD_VERSION` is set.
@@ -57,6 +64,7 @@ pub struct Environment {
     capacity: usize,
     prefix: String,
     tags: Vec<(Option<String>, String)>,
+    container: Option<String>,
 }
 
 /// The error of a variable that can't be used. Its text has the name of the variable, and says what the value has to
@@ -99,6 +107,21 @@ fn tags_of(text: &str) -> Vec<(Option<String>, String)> {
     .collect()
 }
 
+/// Returns what the system says of the control groups of the process. What can't be read is empty.
+fn control_groups() -> Vec<u8> {
+    fs::read("/proc/self/cgroup").unwrap_or_default()
+}
+
+/// Returns the number of the directory of the control group of version 2, or 0 if the process is in those of the host.
+fn inode_of(groups: &[u8]) -> u64 {
+    let inode = |path: &[u8]| fs::metadata(Path::new(std::ffi::OsStr::from_bytes(path))).map_or(0, |data| data.ino());
+    let own = groups.split(|byte| *byte == b'\n').find_map(|line| line.strip_prefix(b"0::"));
+    match own {
+        Some(path) if inode(b"/proc/self/ns/cgroup") != HOST => inode(&[b"/sys/fs/cgroup", path].concat()),
+        _ => 0,
+    }
+}
+
 impl Environment {
     /// Reads the variables of the process. It fails if a variable can't be used; the error says which one, and what its
     /// value has to be.
@@ -119,7 +142,11 @@ impl Environment {
         };
         let prefix = environment_prefix(&variables).map_err(fault_of)?;
         let tags = tags_of(&environment_tags(&variables).map_err(fault_of)?);
-        Ok(Environment { target, capacity, prefix, tags })
+        let is_set = values.last().is_some_and(|value| !value.is_empty());
+        let groups = if is_set { control_groups() } else { Vec::new() };
+        let container = environment_container(&variables, &groups, inode_of(&groups)).map_err(fault_of)?;
+        let container = if container.is_empty() { None } else { Some(container) };
+        Ok(Environment { target, capacity, prefix, tags, container })
     }
 
     /// Returns where to send.
@@ -142,6 +169,12 @@ impl Environment {
         &self.tags
     }
 
+    /// Returns the default container, which is that of the process if a variable says so and the process is in one. The
+    /// files `/proc/self/cgroup` and `/proc/self/ns/cgroup` are read then.
+    pub fn container(&self) -> Option<&str> {
+        self.container.as_deref()
+    }
+
     /// Returns the builder of a client, to which other tags and an error handler can be added. The client sends to the
     /// target from a socket of its own, which never blocks, and packs lines into packets of
     /// [`capacity`](Self::capacity). If nothing is sent, its sink is a [`NopMetricSink`](crate::NopMetricSink). The
@@ -158,6 +191,7 @@ impl Environment {
             Target::Unix(path) => unix_builder(prefix, path, self.capacity)?,
             Target::Nowhere => StatsdClient::builder(prefix, NopMetricSink),
         };
+        let builder = self.container.iter().fold(builder, |builder, id| builder.with_container_id(id));
         Ok(self.tags.iter().fold(builder, |builder, (key, text)| match key {
             Some(key) => builder.with_tag(key, text),
             None => builder.with_tag_value(text),
@@ -193,3 +227,7 @@ fn unix_builder(prefix: &str, path: &str, capacity: usize) -> MetricResult<Stats
     socket.set_nonblocking(true)?;
     Ok(StatsdClient::builder(prefix, BufferedUnixMetricSink::with_capacity(path, socket, capacity)))
 }
+
+#[cfg(test)]
+#[path = "../tests/unit/container.rs"]
+mod tests;

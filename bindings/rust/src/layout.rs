@@ -93,7 +93,7 @@ impl<'a> Settings<'a> {
 }
 
 /// The names of the variables of the environment.
-pub(crate) const VARIABLES: [&str; 15] = [
+pub(crate) const VARIABLES: [&str; 16] = [
     "DD_DOGSTATSD_URL",
     "DD_DOGSTATSD_SOCKET",
     "DD_AGENT_HOST",
@@ -109,6 +109,7 @@ pub(crate) const VARIABLES: [&str; 15] = [
     "STATSD_ENABLED",
     "STATSD_MAXUDPSIZE",
     "STATSD_PREFIX",
+    "DD_ORIGIN_DETECTION_ENABLED",
 ];
 
 /// The values of the variables of the environment, in the order of their names. One that isn't set is empty.

@@ -152,6 +152,16 @@ unsafe extern "C" {
         size: *mut usize,
         variable: *mut u32,
     ) -> u32;
+    fn cadence_environment_container(
+        variables: *const Variables<'_>,
+        groups: *const u8,
+        groups_len: usize,
+        inode: u64,
+        out: *mut u8,
+        room: usize,
+        size: *mut usize,
+        variable: *mut u32,
+    ) -> u32;
     fn cadence_environment_tags(
         variables: *const Variables<'_>,
         out: *mut u8,
@@ -274,6 +284,15 @@ pub(crate) fn destination(variables: &Variables<'_>) -> Result<(String, u16, usi
 pub(crate) fn environment_prefix(variables: &Variables<'_>) -> Result<String, u32> {
     // SAFETY: as in `destination`.
     unsafe { said(|out, room, size, variable| cadence_environment_prefix(variables, out, room, size, variable)) }
+}
+
+/// Returns the default container that the variables say, for a process with these control groups, or an empty text.
+pub(crate) fn environment_container(variables: &Variables<'_>, groups: &[u8], inode: u64) -> Result<String, u32> {
+    let (text, len) = (groups.as_ptr(), groups.len());
+    // SAFETY: as in `destination`. The call reads the groups with their length.
+    unsafe {
+        said(|out, room, size, variable| cadence_environment_container(variables, text, len, inode, out, room, size, variable))
+    }
 }
 
 /// Returns the text of the tags that the variables say.

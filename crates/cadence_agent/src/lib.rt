@@ -15,7 +15,7 @@ mod unix;
 
 pub use cadence_environment::{
     Destination, Environment, EnvironmentError, MAX_PATH, PathError, Variable, Variables,
-    check_path,
+    check_path, container_id,
 };
 pub use environment::{EnvironmentExt, EnvironmentSink, environment_sink, sink_to};
 pub use input::wait_for_input;

@@ -1,6 +1,9 @@
 -- What the variables of the environment say, for a host in C that read them.
-use Rattle.std.specs.Prelude.{◌≡◌, ◌==◌, ◌&&◌, not, ℕ, List, [], Option, Some, None, Bool, if◌then◌else◌, string_bytes}
+use Rattle.std.specs.Prelude.{◌≡◌, ◌==◌, ◌&&◌, ◌++◌, codes, not, ℕ, List, [], Option, Some, None, Bool, if◌then◌else◌, string_bytes}
+use Rattle.std.specs.Fmt.{decimal}
 use Rattle.std.specs.declared.alloc.Global.{Global}
+use Rattle.std.specs.Option.{unwrap_or}
+use Rattle.cadence_environment.specs.Containers.{container_of}
 use Rattle.cadence_environment.specs.Destinations.{SaysPlace, capacity_of}
 use Rattle.cadence_environment.specs.EnvironmentFaults.{IsRead}
 use Rattle.cadence_environment.specs.Switches.{turns_off}
@@ -11,7 +14,7 @@ use Rattle.cadence_errors.specs.declared.input_error.InputError.{InputError}
 use Rattle.cadence_errors.specs.declared.input_error.InputError.TheVariants.{Unusable, OutOfMemory}
 use Rattle.cadence_environment.specs.declared.variables.Variable.{Variable}
 use Rattle.cadence_environment.specs.declared.variables.Variable.TheVariants.{Url, Socket, AgentHost, AgentPort, StatsdHost, StatsdPort}
-use Rattle.cadence_environment.specs.declared.variables.Variable.TheVariants.{Env, Service, Version, Tags, EntityId, Disable, Enabled, MaxSize, Prefix}
+use Rattle.cadence_environment.specs.declared.variables.Variable.TheVariants.{Env, Service, Version, Tags, EntityId, Disable, Enabled, MaxSize, Prefix, Origin}
 use Rattle.cadence_environment.specs.declared.variables.Variables.{Variables}
 use Rattle.cadence_c.specs.declared.environment.CVariables.{CVariables}
 
@@ -32,6 +35,7 @@ pub record HasTexts (c : CVariables) (v : Variables) : Type 0 where
   pub enabled : v.enabled.now ≡ c.enabled.now
   pub max_size : v.max_size.now ≡ c.max_size.now
   pub prefix : v.prefix.now ≡ c.prefix.now
+  pub origin : v.origin.now ≡ c.origin.now
 
 -- the text of a variable if it is read, and otherwise the empty text
 abbrev pub when : Bool → List ℕ → List ℕ
@@ -71,6 +75,7 @@ pub record ArePlacesRead (c : CVariables) (v : Variables) : Type 0 where
   pub enabled : v.enabled.now ≡ c.enabled.now
   pub max_size : v.max_size.now ≡ when (is_on c) c.max_size.now
   pub prefix : v.prefix.now ≡ []
+  pub origin : v.origin.now ≡ []
 
 -- The variables that say tags have these texts. The others are empty.
 pub record AreTagsRead (c : CVariables) (v : Variables) : Type 0 where
@@ -89,6 +94,7 @@ pub record AreTagsRead (c : CVariables) (v : Variables) : Type 0 where
   pub enabled : v.enabled.now ≡ []
   pub max_size : v.max_size.now ≡ []
   pub prefix : v.prefix.now ≡ []
+  pub origin : v.origin.now ≡ []
 
 -- The destination is this host and port, or this path and the port 0, or nowhere, with no text and the port 0.
 abbrev pub IsPlaceFound : {A : Type 0} → Destination A → List ℕ → ℕ → Type 0
@@ -109,7 +115,7 @@ variable_named n =
     else if n == 4 then Some StatsdHost else if n == 5 then Some StatsdPort else if n == 6 then Some Env else if n == 7 then Some Service
     else if n == 8 then Some Version else if n == 9 then Some Tags else if n == 10 then Some EntityId
     else if n == 11 then Some Disable else if n == 12 then Some Enabled else if n == 13 then Some MaxSize
-    else if n == 14 then Some Prefix else None
+    else if n == 14 then Some Prefix else if n == 15 then Some Origin else None
 
 -- The error names the variable of this number, or says that memory ran out.
 abbrev pub Names : InputError Variable → ℕ → Type 0
@@ -119,3 +125,12 @@ Names OutOfMemory n = ⊥
 -- The variable of this number is set, and no other one overrides it.
 abbrev pub IsNamed : Variables → ℕ → Type 0
 IsNamed v n = (variable : Variable) × (variable_named n ≡ Some variable) × IsRead v variable
+
+-- the container that has this number as the one of its control group, or none if it has no number
+abbrev pub numbered : ℕ → List ℕ
+numbered inode = if inode == 0 then [] else codes "in-" ++ decimal inode
+
+-- the text of the default container: that of the process if it is wanted, by the text of its control groups or, if that
+-- has no id, by the number of its control group
+abbrev pub container_text : Bool → List ℕ → ℕ → List ℕ
+container_text is_wanted cgroup inode = if is_wanted then unwrap_or (container_of cgroup) (numbered inode) else []

@@ -42,10 +42,15 @@ pub struct CVariables<'a> {
     pub enabled: &'a [u8],
     pub max_size: &'a [u8],
     pub prefix: &'a [u8],
+    pub origin: &'a [u8],
 }
 
-// Returns the text of a variable, or the empty text if it is not wanted, because another variable overrides it.
-fn read_variable(text: &[u8], variable: Variable, is_wanted: bool) -> Result<&str, EnvironmentError>
+/// Returns the text of a variable, or the empty text if it is not wanted, because another variable overrides it.
+pub fn read_variable(
+    text: &[u8],
+    variable: Variable,
+    is_wanted: bool,
+) -> Result<&str, EnvironmentError>
     ensures read { IfOk result (λ t. t.now ≡ (if is_wanted then text.now else [])) }
     ensures refused { IfErr result (λ e. e ≡ Unusable variable) }
     ensures wanted { IfErr result (λ _. is_wanted ≡ true) }
@@ -106,6 +111,7 @@ fn read_places<'a>(texts: &CVariables<'a>) -> Result<Variables<'a>, EnvironmentE
         enabled,
         max_size: read_variable(texts.max_size, Variable::MaxSize, is_on)?,
         prefix: "",
+        origin: "",
     })
 }
 
@@ -131,6 +137,7 @@ fn read_tag_texts<'a>(texts: &CVariables<'a>) -> Result<Variables<'a>, Environme
         enabled: "",
         max_size: "",
         prefix: "",
+        origin: "",
     })
 }
 
@@ -156,8 +163,8 @@ fn read_tags(alloc: Global, texts: &CVariables<'_>) -> Result<Environment, Envir
     Environment::from_variables(alloc, &variables)
 }
 
-// Returns the status of an error, and stores the number of the variable that the error names.
-fn refusal(error: EnvironmentError, variable: &mut u32) -> u32
+/// Returns the status of an error, and stores the number of the variable that the error names.
+pub fn refusal(error: EnvironmentError, variable: &mut u32) -> u32
     ensures named { result ≡ CADENCE_VARIABLE → Names error variable.new }
     ensures statuses { (result ≡ CADENCE_VARIABLE) ⊎ (result ≡ CADENCE_NO_MEMORY) }
 {

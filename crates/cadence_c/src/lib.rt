@@ -6,6 +6,7 @@
 //! - `texts`: the calls that make the texts of settings
 //! - `events`: the calls for events and service checks
 //! - `environment`: what the variables of the environment say
+//! - `container`: the default container, which is that of the process if a variable says so
 //! - `variable`: the variables by their numbers in C
 //! - `line`: the line of a call
 //! - `format`: the calls that write a line and need no client
@@ -22,6 +23,7 @@
 mod box_parts;
 mod call;
 mod client;
+mod container;
 mod environment;
 mod events;
 mod floats;

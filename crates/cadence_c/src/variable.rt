@@ -27,6 +27,7 @@ pub fn number_of(variable: Variable) -> u32
         Variable::Enabled => 12,
         Variable::MaxSize => 13,
         Variable::Prefix => 14,
+        Variable::Origin => 15,
     }
 }
 
@@ -50,6 +51,7 @@ fn variable_of(number: u32) -> Option<Variable>
         12 => Some(Variable::Enabled),
         13 => Some(Variable::MaxSize),
         14 => Some(Variable::Prefix),
+        15 => Some(Variable::Origin),
         _ => None,
     }
 }

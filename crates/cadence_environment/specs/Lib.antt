@@ -1,3 +1,4 @@
+pub mod Containers
 pub mod Destinations
 pub mod EnvironmentFaults
 pub mod Paths

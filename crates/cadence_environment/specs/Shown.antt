@@ -1,5 +1,5 @@
 -- What contracts show of an environment, whose fields are private.
-use Rattle.std.specs.Prelude.{ℕ, List, map, string_bytes}
+use Rattle.std.specs.Prelude.{ℕ, Bool, List, map, string_bytes}
 use Rattle.cadence_text.specs.Metric.{Tag}
 use Rattle.cadence_text.specs.Owned.{tag_of_owned}
 use Rattle.cadence_environment.specs.declared.destination.Destination.{Destination}
@@ -16,3 +16,7 @@ prefix_of e = string_bytes e.prefix
 -- the tags that the environment says, in order
 abbrev pub tags_of : {A : Type 0} → Environment A → List Tag
 tags_of e = map tag_of_owned e.tags.items
+
+-- whether the environment says that the default container is that of the process
+abbrev pub finds_container : {A : Type 0} → Environment A → Bool
+finds_container e = e.finds_container

@@ -1,17 +1,19 @@
-//! What the environment says of the agent and of the service: where to send, and the tags of the service.
+//! What the environment says of the agent and of the service: where to send, the tags of the service, and its container.
 //!
+//! - `container`: the container that a process runs in.
 //! - `destination`: where the variables say to send.
 //! - `error`: why nothing is read from the environment.
 //! - `numbers`: the numbers that the variables say: ports, and how many bytes a packet has.
 //! - `path`: which texts can be the path of a Unix socket.
 //! - `prefix`: the prefix that a variable says.
 //! - `read`: what the environment says, read from a runtime or from texts.
-//! - `switch`: whether the variables say that nothing is sent.
+//! - `switch`: whether the variables say that nothing is sent, and whether the default container is that of the process.
 //! - `tags`: the tags that the variables say.
 //! - `trim`: texts without the spaces round them.
 //! - `variables`: the variables of the environment, and the texts that they have.
 #![tactic(auto)]
 
+mod container;
 mod destination;
 mod error;
 mod numbers;
@@ -23,11 +25,12 @@ mod tags;
 mod trim;
 mod variables;
 
+pub use container::container_id;
 pub use destination::Destination;
 pub use error::EnvironmentError;
 pub use numbers::read_port;
 pub use path::{MAX_PATH, PathError, check_path};
 pub use prefix::read_prefix;
 pub use read::Environment;
-pub use switch::is_off;
+pub use switch::{is_off, read_origin};
 pub use variables::{Variable, Variables};

@@ -3,12 +3,16 @@ ghost use Rattle.std.specs.Prelude.{◌≡◌, IfErr, IfOk, map};
 ghost use Rattle.cadence_text.specs.Owned.{tag_of_owned};
 ghost use Rattle.cadence_environment.specs.Destinations.{SaysPlace};
 ghost use Rattle.cadence_environment.specs.EnvironmentFaults.{IsRefusedVariable, NamesNoPath};
+ghost use Rattle.cadence_environment.specs.Containers.{default_container};
+ghost use Rattle.cadence_environment.specs.Switches.{IsSwitch, is_yes};
 ghost use Rattle.cadence_environment.specs.TagTexts.{tags_said};
+ghost use Rattle.std.specs.Option.{option_copied};
 
+use crate::container::container_id;
 use crate::destination::{Destination, read_destination};
 use crate::error::EnvironmentError;
 use crate::prefix::read_prefix;
-use crate::switch::is_off;
+use crate::switch::{is_off, read_origin};
 use crate::tags::{Tags, read_tags};
 use crate::variables::{Variable, Variables};
 use cadence_text::line::OwnedTag;
@@ -16,16 +20,18 @@ use std::alloc::{Alloc, Allocator, Global};
 use std::env;
 use std::env::{Env, VarError};
 
-/// What the environment says: where to send, the prefix of all names, and the default tags of the service.
+/// What the environment says: where to send, the prefix of all names, the default tags of the service, and whether its
+/// default container is that of the process.
 #[derive(Drop)]
 pub struct Environment<A: Allocator = Global> {
     destination: Destination<A>,
     prefix: String<A>,
     tags: Tags<A>,
+    finds_container: bool,
 }
 
 impl<A: Allocator> Environment<A> {
-    ghost use Rattle.cadence_environment.specs.Shown.{destination_of, prefix_of, tags_of};
+    ghost use Rattle.cadence_environment.specs.Shown.{destination_of, finds_container, prefix_of, tags_of};
 
     /// Returns where the environment says to send.
     pub fn destination(&self) -> &Destination<A>
@@ -47,10 +53,30 @@ impl<A: Allocator> Environment<A> {
     {
         &self.tags
     }
+
+    /// Returns whether the default container is that of the process, so that the caller reads `/proc/self/cgroup`.
+    pub fn finds_container(&self) -> bool
+        ensures { result ≡ finds_container self.now }
+    {
+        self.finds_container
+    }
+
+    /// Returns the default container of a client: the one that the caller gives, or otherwise the one that this text of
+    /// `/proc/self/cgroup` says, if the environment says that it is the default one. `container_id` says which one that
+    /// is.
+    pub fn container<'a>(&self, given: Option<&'a str>, cgroup: &'a [u8]) -> Option<&'a str>
+        ensures { option_copied result ≡ default_container (finds_container self.now)
+            (option_copied given.entry) cgroup.now }
+    {
+        if given.is_some() || !self.finds_container {
+            return given;
+        }
+        container_id(cgroup)
+    }
 }
 
 impl<A: Allocator + Clone> Environment<A> {
-    ghost use Rattle.cadence_environment.specs.Shown.{destination_of, prefix_of, tags_of};
+    ghost use Rattle.cadence_environment.specs.Shown.{destination_of, finds_container, prefix_of, tags_of};
 
     /// Returns what these texts of the variables say.
     ///
@@ -64,16 +90,21 @@ impl<A: Allocator + Clone> Environment<A> {
         ensures place { IfOk result (λ e. SaysPlace variables.now (destination_of e)) }
         ensures prefix { IfOk result (λ e. prefix_of e ≡ variables.now.prefix.now) }
         ensures tags { IfOk result (λ e. tags_of e ≡ tags_said variables.now) }
+        ensures container { IfOk result (λ e.
+            finds_container e ≡ is_yes variables.now.origin.now) }
+        ensures switch { IfOk result (λ _. IsSwitch variables.now.origin.now) }
         ensures refused { IfErr result (IsRefusedVariable variables.now) }
         ensures paths { IfErr result (NamesNoPath variables.now) }
     {
         let destination = read_destination(alloc.clone()?, variables)?;
         let prefix = String::from_str(alloc.clone()?, read_prefix(variables.prefix)?)?;
         let tags = read_tags(alloc, variables)?;
+        let finds_container = read_origin(variables.origin)?;
         Ok(Environment {
             destination,
             prefix,
             tags,
+            finds_container,
         })
     }
 
@@ -86,8 +117,10 @@ impl<A: Allocator + Clone> Environment<A> {
         let places = PlaceTexts::read(rt)?;
         let prefix = read_text(rt, Variable::Prefix, true)?;
         let tags = TagTexts::read(rt)?;
+        let origin = read_text(rt, Variable::Origin, true)?;
         let others = Variables {
             prefix: &prefix,
+            origin: &origin,
             ..Variables::none()
         };
         Environment::from_variables(rt.alloc(), &tags.lend(places.lend(others)))

@@ -1,7 +1,8 @@
-//! Whether the variables say that nothing is sent.
+//! Whether the variables say that nothing is sent, and whether the default container is that of the process.
 ghost use Rattle.std.specs.Prelude.{◌≡◌, IfErr, IfOk};
 ghost use Rattle.cadence_environment.specs.EnvironmentFaults.{IsRefusedVariable, IsSetFault, NamesNoPath};
 ghost use Rattle.cadence_environment.specs.Switches.{IsSwitch, is_no, is_yes, turns_off};
+ghost use Rattle.cadence_environment.specs.declared.variables.Variable.TheVariants as variable;
 
 use crate::error::EnvironmentError;
 use crate::variables::{Variable, Variables};
@@ -47,4 +48,17 @@ pub(crate) fn check_switches(variables: &Variables<'_>) -> Result<(), Environmen
 {
     check_switch(Variable::Disable, variables.disable)?;
     check_switch(Variable::Enabled, variables.enabled)
+}
+
+/// Returns whether this text of `DD_ORIGIN_DETECTION_ENABLED` says that the default container is that of the process.
+///
+/// # Errors
+/// `Unusable` if the text is set and says neither yes nor no.
+pub fn read_origin(text: &str) -> Result<bool, EnvironmentError>
+    ensures said { IfOk result (λ is_wanted. is_wanted ≡ is_yes text.now) }
+    ensures switch { IfOk result (λ _. IsSwitch text.now) }
+    ensures refused { IfErr result (IsSetFault variable.Origin text.now) }
+{
+    check_switch(Variable::Origin, text)?;
+    Ok(says_yes(text))
 }

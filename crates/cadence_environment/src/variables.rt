@@ -36,6 +36,8 @@ pub enum Variable {
     MaxSize,
     /// `STATSD_PREFIX`: the prefix of all names, if the caller gives none.
     Prefix,
+    /// `DD_ORIGIN_DETECTION_ENABLED`: if it says yes, the default container is that of the process.
+    Origin,
 }
 
 impl Variable {
@@ -57,6 +59,7 @@ impl Variable {
             Variable::Enabled => "STATSD_ENABLED",
             Variable::MaxSize => "STATSD_MAXUDPSIZE",
             Variable::Prefix => "STATSD_PREFIX",
+            Variable::Origin => "DD_ORIGIN_DETECTION_ENABLED",
         }
     }
 }
@@ -87,6 +90,8 @@ impl Reason for Variable {
             Variable::MaxSize =>
                 "STATSD_MAXUDPSIZE wants 1 to 65507 bytes, as in STATSD_MAXUDPSIZE=1432",
             Variable::Prefix => "STATSD_PREFIX wants no colons, commas, bars or newlines",
+            Variable::Origin =>
+                "DD_ORIGIN_DETECTION_ENABLED wants 1, true or yes, or 0, false or no",
         }
     }
 }
@@ -130,6 +135,8 @@ pub struct Variables<'a> {
     pub max_size: &'a str,
     /// The text of `STATSD_PREFIX`.
     pub prefix: &'a str,
+    /// The text of `DD_ORIGIN_DETECTION_ENABLED`.
+    pub origin: &'a str,
 }
 
 impl Variables<'_> {
@@ -151,6 +158,7 @@ impl Variables<'_> {
             enabled: "",
             max_size: "",
             prefix: "",
+            origin: "",
         }
     }
 }

@@ -7,6 +7,7 @@
 //! - `data/sums`: lines that are added up, and what is sent of them. `sums` makes them.
 //! - `data/environment.rows`: variables of the environment. `environment` reads them; the tests of C, Rust and Python
 //!   read the same file. It also prints the message of each variable that can't be used.
+//! - `data/containers.rows`: the containers of processes. `containers` reads them, as those tests do.
 //! - `data/addresses.rows`: the addresses of a name, and the one that is sent to. `addresses` reads them, as those tests do.
 //!
 //! Then it prints the texts of an audited queue's errors. Sockets, memory that is refused and numbers of calls are
@@ -36,6 +37,7 @@ mod bursts;
 mod callers;
 mod calls;
 mod clients;
+mod containers;
 mod environment;
 mod makers;
 mod queues;
@@ -104,6 +106,8 @@ fn report_rows<R: Runtime + Alloc + Files + Net>(rt: &R, alloc: Global) -> Metri
     text.push_str(&sums::report(rt, alloc, &fs::read_to_string(rt, "sums")?)?)?;
     let variables = fs::read_to_string(rt, "environment.rows")?;
     text.push_str(&environment::report(alloc, &variables)?)?;
+    let containers = fs::read_to_string(rt, "containers.rows")?;
+    text.push_str(&containers::report(alloc, &containers)?)?;
     let addresses = fs::read_to_string(rt, "addresses.rows")?;
     text.push_str(&addresses::report(rt, alloc, &addresses)?)?;
     writeln!(&mut text, "port {DEFAULT_PORT}")?;

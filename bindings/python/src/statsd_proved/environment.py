@@ -2,6 +2,7 @@
 """What the variables of the environment say about a client."""
 from __future__ import annotations
 
+import os
 from collections.abc import Mapping
 from typing import Union
 
@@ -17,7 +18,11 @@ NOWHERE = "nowhere://"
 # the names of the variables, in the order of cadence.h
 _NAMES = (b"DD_DOGSTATSD_URL", b"DD_DOGSTATSD_SOCKET", b"DD_AGENT_HOST", b"DD_DOGSTATSD_PORT", b"STATSD_HOST", b"STATSD_PORT",
           b"DD_ENV", b"DD_SERVICE", b"DD_VERSION", b"DD_TAGS", b"DD_ENTITY_ID", b"DD_DOGSTATSD_DISABLE", b"STATSD_ENABLED",
-          b"STATSD_MAXUDPSIZE", b"STATSD_PREFIX")
+          b"STATSD_MAXUDPSIZE", b"STATSD_PREFIX", b"DD_ORIGIN_DETECTION_ENABLED")
+
+
+# the number of the control groups of the host
+_HOST = 4026531835
 
 
 class VariableError(ValueError):
@@ -51,6 +56,37 @@ def tags(variables: Variables) -> list[Tag]:
     """Returns the tags, in their order: pairs of a key and a text, and texts."""
     text, _, _ = _core.environment_tags(*_values(variables))
     return [_tag(tag) for tag in text.removeprefix("|#").split(",")] if text else []
+
+
+def container(variables: Variables, is_wanted: bool | None = None) -> str | None:
+    """Returns the container of the process if a variable says that it is the default one, or `is_wanted` in its place."""
+    values = _values(variables)
+    if is_wanted is not None:
+        values = (*values[:-1], b"1" if is_wanted else b"0")
+    if not values[-1]:
+        return None
+    groups = _groups()
+    return _core.environment_container(groups, _inode(groups), *values)[0] or None
+
+
+def _groups() -> bytes:
+    """Returns what the system says of the control groups of the process."""
+    try:
+        with open("/proc/self/cgroup", "rb") as file:
+            return file.read()
+    except OSError:
+        return b""
+
+
+def _inode(groups: bytes) -> int:
+    """Returns the number of the directory of the control group of version 2, or 0 if the process is in those of the host."""
+    try:
+        if os.stat("/proc/self/ns/cgroup").st_ino == _HOST:
+            return 0
+        own = [line[3:] for line in groups.split(b"\n") if line.startswith(b"0::")]
+        return os.stat(b"/sys/fs/cgroup" + own[0]).st_ino if own else 0
+    except OSError:
+        return 0
 
 
 def _tag(text: str) -> Tag:
