@@ -40,11 +40,13 @@ typedef struct cadence_udp {
     uint64_t period, since; /* in nanoseconds of the monotonic clock */
     uint64_t refused; /* how many times a packet could not be sent for now */
     uint64_t too_long; /* how many packets were dropped because they are too long for the socket */
+    cadence_settings telemetry; /* of cadence_udp_telemetry, with the counts that were told, and when */
+    uint64_t telemetry_every, told_at, told[3];
     char fault[256];
 } cadence_udp;
 
 #define CADENCE_UDP_CLOSED                                                                                             \
-    { CADENCE_CLOSED, CADENCE_NO_SETTINGS, CADENCE_NULL, 0, 0, 0, 0, { 0 } }
+    { CADENCE_CLOSED, CADENCE_NO_SETTINGS, CADENCE_NULL, 0, 0, 0, 0, CADENCE_NO_SETTINGS, 0, 0, { 0, 0, 0 }, { 0 } }
 
 /* Each of these makes a client with packets of at most `capacity` bytes. Up to 64 packets wait. The first sends to a
  * host, which is a name or an address, and a port. The second sends to the path of a Unix datagram socket, which needs
@@ -55,8 +57,8 @@ const char *cadence_udp_connect(cadence_udp *to, const char *host, uint16_t port
 const char *cadence_udp_connect_path(cadence_udp *to, const char *path, size_t capacity, uint32_t period_millis);
 
 /* The same, but the client sends where the variables of the environment say, and `settings` have the prefix, which gets
- * a dot at its end if it has none, and the tags of the variables. If `prefix` is null, it is that of the variables.
- * Their texts stay until the client is closed. If `capacity` is 0, it is what cadence_destination says. If the
+ * a dot at its end if it has none, and the tags of the variables, and the container of the process if a variable says so. If `prefix` is null, it is
+ * that of the variables. Their texts stay until the client is closed. If `capacity` is 0, it is what cadence_destination says. If the
  * variables say that nothing is sent, the client drops each packet as if it were sent. */
 const char *cadence_udp_connect_environment(cadence_udp *to, const char *prefix, size_t capacity,
                                             uint32_t period_millis);
@@ -68,6 +70,13 @@ size_t cadence_udp_send(cadence_udp *to);
 
 /* Sends the held text at once, and the packets that wait. Returns how many packets still wait. */
 size_t cadence_udp_flush(cadence_udp *to);
+
+/* Lets an open client send its own counts from now on: a flush, also one of cadence_udp_send, first keeps a counter for
+ * each of packets_sent, packets_dropped and packets_refused that has grown since the last report, after the prefix of these
+ * settings and with their tags and container. There is at most one report in `every_millis` milliseconds, and none if that
+ * is 0. The packet of a report counts in the next one. If no client is open, nothing happens. The texts of the settings
+ * have to stay until the client is closed. */
+void cadence_udp_telemetry(cadence_udp *to, const cadence_settings *settings, uint32_t every_millis);
 
 /* Sends what is left, closes the socket and frees the client. What the socket refuses is lost. */
 void cadence_udp_close(cadence_udp *to);

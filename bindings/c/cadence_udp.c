@@ -7,11 +7,15 @@
 #include <stdio.h>
 #include <stdlib.h>
 #include <sys/socket.h>
+#include <sys/stat.h>
 #include <sys/un.h>
 #include <time.h>
 #include <unistd.h>
 
-enum { PACKETS = 64, FIRST_ROOM = 65536 };
+enum { PACKETS = 64, FIRST_ROOM = 65536, GROUPS = 16384 };
+
+/* the number of the control groups of the host */
+static const uint64_t HOST = 4026531835;
 
 static const uint64_t SECOND = 1000000000;
 
@@ -83,7 +87,8 @@ static const char *begin(cadence_udp *to, const char *host, size_t capacity, uin
     if (status != CADENCE_OK) return fault(to, "cadence_open", cadence_status_text(status));
     to->period = (uint64_t)period_millis * 1000000;
     to->since = now();
-    to->refused = to->too_long = 0;
+    to->refused = to->too_long = to->telemetry_every = 0;
+    memset(to->told, 0, sizeof to->told);
     return NULL;
 }
 
@@ -156,8 +161,31 @@ static const char *connect_nowhere(cadence_udp *to, size_t capacity, uint32_t pe
     return words;
 }
 
-/* Makes the settings of a prefix, which is that of the variables if it is null, and of the tags of the variables. */
-static uint32_t make_settings(cadence_udp *to, const char *prefix, const cadence_variables *variables, uint32_t *variable) {
+/* What the system says of the control groups of the process. */
+struct groups {
+    size_t len;
+    uint64_t inode; /* of the directory of version 2, or 0 if the process is in the groups of the host */
+    char text[GROUPS + 1], path[GROUPS];
+};
+
+/* Reads what the system says of the control groups of the process. What can't be read is empty, or 0. */
+static void read_groups(struct groups *to) {
+    FILE *const file = fopen("/proc/self/cgroup", "re");
+    struct stat found;
+    to->len = file != NULL ? fread(to->text, 1, GROUPS, file) : 0;
+    if (file != NULL) fclose(file);
+    if (stat("/proc/self/ns/cgroup", &found) == 0 && found.st_ino == HOST) return;
+    const char *line = to->text;
+    while (line != NULL && strncmp(line, "0::", 3) != 0) line = (line = strchr(line, '\n')) != NULL ? line + 1 : NULL;
+    if (line == NULL) return;
+    snprintf(to->path, sizeof to->path, "/sys/fs/cgroup%.*s", (int)strcspn(line + 3, "\n"), line + 3);
+    if (stat(to->path, &found) == 0) to->inode = found.st_ino;
+}
+
+/* Makes the settings of a prefix, which is that of the variables if it is null, and of the tags and the container that the
+ * variables say. */
+static uint32_t make_settings(cadence_udp *to, const char *prefix, const cadence_variables *variables,
+                              const struct groups *groups, uint32_t *variable) {
     cadence_settings made = CADENCE_NO_SETTINGS;
     size_t len = 0;
     uint32_t status = cadence_environment_prefix(variables, NULL, 0, &len, variable);
@@ -166,14 +194,33 @@ static uint32_t make_settings(cadence_udp *to, const char *prefix, const cadence
     const size_t room = (prefix != NULL ? strlen(prefix) : len) + 1;
     status = cadence_environment_tags(variables, NULL, 0, &made.tags_len, variable);
     if (status != CADENCE_OK && status != CADENCE_TOO_SMALL) return status;
-    uint8_t *const texts = to->socket->texts = malloc(room + made.tags_len);
+    const uint8_t *const text = CADENCE_BYTES(groups->text);
+    status = cadence_environment_container(variables, text, groups->len, groups->inode, NULL, 0, &made.container_len, variable);
+    if (status != CADENCE_OK && status != CADENCE_TOO_SMALL) return status;
+    uint8_t *const texts = to->socket->texts = malloc(room + made.tags_len + made.container_len);
     if (texts == NULL) return CADENCE_NO_MEMORY;
+    uint8_t *const tags = texts + room, *const container = tags + made.tags_len;
     made.prefix = texts;
-    made.tags = texts + room;
+    made.tags = tags;
+    made.container = container;
+    made.contained = made.container_len != 0;
     status = cadence_prefix_text(given, room - 1, false, texts, room, &made.prefix_len);
     if (status == CADENCE_OK)
-        status = cadence_environment_tags(variables, texts + room, made.tags_len, &made.tags_len, variable);
+        status = cadence_environment_tags(variables, tags, made.tags_len, &made.tags_len, variable);
+    if (status == CADENCE_OK)
+        status = cadence_environment_container(variables, text, groups->len, groups->inode, container, made.container_len,
+                                               &made.container_len, variable);
     if (status == CADENCE_OK) to->settings = made;
+    return status;
+}
+
+/* The same, after it has read the control groups if a variable asks for the container of the process. */
+static uint32_t find_settings(cadence_udp *to, const char *prefix, const cadence_variables *variables, uint32_t *variable) {
+    struct groups *const groups = calloc(1, sizeof *groups);
+    if (groups == NULL) return CADENCE_NO_MEMORY;
+    if (variables->origin_len != 0) read_groups(groups);
+    const uint32_t status = make_settings(to, prefix, variables, groups, variable);
+    free(groups);
     return status;
 }
 
@@ -192,7 +239,7 @@ const char *cadence_udp_connect_environment(cadence_udp *to, const char *prefix,
                         : len != 0 ? cadence_udp_connect_path(to, place, capacity, period_millis)
                                    : connect_nowhere(to, capacity, period_millis);
     if (words != NULL) return words;
-    status = make_settings(to, prefix, &variables, &variable);
+    status = find_settings(to, prefix, &variables, &variable);
     return status == CADENCE_OK ? NULL : bad_environment(to, status, variable);
 }
 
@@ -206,6 +253,32 @@ static uint32_t next_packet(cadence_udp *to, size_t *len) {
     it->packet = packet;
     it->room = *len;
     return cadence_next(&to->client, packet, it->room, len);
+}
+
+/* Keeps a counter of a count that has grown since it was last kept. If there is no room for it, the next report has it. */
+static void keep_growth(cadence_udp *to, const char *key, uint64_t count, uint64_t *kept) {
+    if (count != *kept
+        && cadence_natural(&to->client, &to->telemetry, CADENCE_COUNTER, key, count - *kept, NULL) == CADENCE_OK)
+        *kept = count;
+}
+
+/* Keeps the counters of the client's own counts, if a report is due. */
+static void keep_counts(cadence_udp *to) {
+    cadence_counts_of counts = { 0, 0, 0, 0, 0 };
+    const uint64_t time = now();
+    if (to->telemetry_every == 0 || time - to->told_at < to->telemetry_every
+        || cadence_counts(&to->client, &counts) != CADENCE_OK)
+        return;
+    to->told_at = time;
+    keep_growth(to, "packets_sent", counts.sent - to->too_long, &to->told[0]);
+    keep_growth(to, "packets_dropped", counts.dropped + to->too_long, &to->told[1]);
+    keep_growth(to, "packets_refused", to->refused, &to->told[2]);
+}
+
+void cadence_udp_telemetry(cadence_udp *to, const cadence_settings *settings, uint32_t every_millis) {
+    to->telemetry = *settings;
+    to->telemetry_every = (uint64_t)every_millis * 1000000;
+    to->told_at = now();
 }
 
 /* Sends the packet of this length, and returns what sendto returns. */
@@ -245,6 +318,7 @@ size_t cadence_udp_send(cadence_udp *to) {
 
 size_t cadence_udp_flush(cadence_udp *to) {
     to->since = now();
+    keep_counts(to);
     cadence_flush(&to->client);
     return send_waiting(to);
 }

@@ -329,6 +329,52 @@ static void by_environment(const char *path) {
     unlink(path);
 }
 
+/* A client that sends its own counts. */
+static void by_telemetry(const char *path) {
+    const cadence_settings settings = cadence_settings_of("t.");
+    uint16_t port = 0;
+    int server = server_at("127.0.0.1", &port);
+    cadence_udp out = CADENCE_UDP_CLOSED;
+    cadence_udp_telemetry(&out, &settings, 1);
+    CHECK(cadence_udp_connect(&out, "127.0.0.1", port, 512, HOUR) == NULL && flushed(&out, "a", 1) == 0);
+    later += SECOND;
+    CHECK(gets(server, "a:1|c\n") && cadence_udp_flush(&out) == 0 && gets_nothing(server));
+    cadence_udp_telemetry(&out, &settings, 1000);
+    CHECK(cadence_udp_flush(&out) == 0 && gets_nothing(server));
+    for (int i = 0; i < 3; i++) { /* the packet of a report is in the next one */
+        later += SECOND;
+        CHECK(cadence_udp_flush(&out) == 0 && gets(server, "t.packets_sent:1|c\n") && gets_nothing(server));
+    }
+    cadence_udp_telemetry(&out, &settings, HOUR);
+    CHECK(flushed(&out, "a", 1) == 0 && gets(server, "a:1|c\n") && gets_nothing(server));
+    cadence_udp_close(&out);
+    CHECK(cadence_udp_connect_path(&out, path, 512, HOUR) == NULL);
+    cadence_udp_telemetry(&out, &settings, 1);
+    CHECK(flushed(&out, "a", 1) == 1 && close(server) == 0);
+    server = server_at_path(path);
+    later += SECOND;
+    CHECK(cadence_udp_flush(&out) == 0 && gets(server, "a:1|c\n"));
+    CHECK(gets(server, "t.packets_refused:1|c\n") && gets_nothing(server));
+    cadence_udp_close(&out);
+    close(server);
+    unlink(path);
+}
+
+/* The container of the process, if a variable asks for it. */
+static void by_container(void) {
+    cadence_udp out = CADENCE_UDP_CLOSED;
+    const char *const words[] = { "1", "", "0", "on" };
+    for (int i = 0; i < 4; i++) {
+        setenv("DD_ORIGIN_DETECTION_ENABLED", words[i], 1);
+        const char *const fault = cadence_udp_connect_environment(&out, "p", 512, HOUR);
+        CHECK(i < 3 ? fault == NULL : strncmp(fault, "DD_ORIGIN_DETECTION_ENABLED wants ", 34) == 0);
+        if (i > 0) CHECK(!out.settings.contained && out.settings.container_len == 0);
+        else if (out.settings.contained) CHECK(out.settings.container_len == 64 || memcmp(out.settings.container, "in-", 3) == 0);
+    }
+    cadence_udp_close(&out);
+    CHECK(unsetenv("DD_ORIGIN_DETECTION_ENABLED") == 0);
+}
+
 int main(int argc, char **argv) {
     char path[108];
     if (argc != 3 || (size_t)snprintf(path, sizeof path, "%s/udp.sock", argv[1]) >= sizeof path) return 2;
@@ -341,5 +387,7 @@ int main(int argc, char **argv) {
     by_name();
     by_rows(argv[2]);
     by_environment(path);
+    by_telemetry(path);
+    by_container();
     return failures != 0;
 }

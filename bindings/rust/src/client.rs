@@ -6,6 +6,7 @@ use crate::line::Record;
 use crate::raw::{call_refusal, Numbers, OwnedSettings, Parts, OK};
 use crate::sealed::Sealed;
 use crate::sinks::MetricSink;
+use crate::telemetry::Telemetry;
 use crate::types::{Counter, Distribution, Gauge, Histogram, Meter, Metric, MetricError, MetricResult, Set, Timer};
 use crate::value::{
     MetricValue, ToCounterValue, ToDistributionValue, ToGaugeValue, ToHistogramValue, ToMeterValue, ToSetValue, ToTimerValue,
@@ -33,6 +34,7 @@ pub struct StatsdClientBuilder {
     prefix: String,
     container: Option<String>,
     strict: bool,
+    pub(crate) telemetry: Option<(String, Duration)>,
 }
 
 impl StatsdClientBuilder {
@@ -85,12 +87,23 @@ impl StatsdClientBuilder {
 
     /// Makes the client.
     pub fn build(mut self) -> StatsdClient {
-        let tags: Vec<Tag<'_>> = self.client.tags.iter().map(|(key, text)| Tag::new(key.as_deref(), text)).collect();
-        match OwnedSettings::new(&self.prefix, &tags, self.container.as_deref(), self.strict) {
+        match self.settings_of(&self.prefix) {
             Ok(settings) => self.client.settings = settings,
             Err(status) => self.client.refusal = status,
         }
+        if let Some((prefix, every)) = &self.telemetry {
+            match self.settings_of(prefix) {
+                Ok(settings) => self.client.telemetry = Some(Telemetry::new(settings, *every, &*self.client.sink)),
+                Err(status) => self.client.refusal = status,
+            }
+        }
         self.client
+    }
+
+    /// Returns the settings of the client with a prefix, or the status of the library if they can't be made.
+    fn settings_of(&self, prefix: &str) -> Result<OwnedSettings, u32> {
+        let tags: Vec<Tag<'_>> = self.client.tags.iter().map(|(key, text)| Tag::new(key.as_deref(), text)).collect();
+        OwnedSettings::new(prefix, &tags, self.container.as_deref(), self.strict)
     }
 
     /// Makes the client as [`build`](Self::build) does. It fails with `InvalidInput` if the client is strict and its
@@ -125,6 +138,7 @@ pub struct StatsdClient {
     tags: Vec<(Option<String>, String)>,
     /// The status that the library returned for the settings. If it isn't `OK`, each call fails with its error.
     refusal: u32,
+    telemetry: Option<Telemetry>,
 }
 
 impl StatsdClient {
@@ -137,14 +151,17 @@ impl StatsdClient {
     /// Returns the builder of a client with a prefix, as in [`from_sink`](Self::from_sink), and a sink.
     pub fn builder<S: MetricSink + Sync + Send + RefUnwindSafe + 'static>(prefix: &str, sink: S) -> StatsdClientBuilder {
         let (settings, sink, errors) = (OwnedSettings::default(), Box::new(sink), Box::new(|_| ()));
-        let client = StatsdClient { settings, sink, errors, tags: Vec::new(), refusal: OK };
-        StatsdClientBuilder { client, prefix: prefix.to_string(), container: None, strict: false }
+        let client = StatsdClient { settings, sink, errors, tags: Vec::new(), refusal: OK, telemetry: None };
+        StatsdClientBuilder { client, prefix: prefix.to_string(), container: None, strict: false, telemetry: None }
     }
 
     /// Flushes the sink, which then sends the lines that it has buffered.
     ///
     /// It fails with `IoError` if the sink does. A buffered sink of this crate keeps the lines that it couldn't send.
     pub fn flush(&self) -> MetricResult<()> {
+        if let Some(telemetry) = &self.telemetry {
+            telemetry.report(&*self.sink);
+        }
         Ok(self.sink.flush()?)
     }
 
@@ -257,7 +274,13 @@ impl Sealed for StatsdClient {}
 impl MetricBackend for StatsdClient {
     #[inline]
     fn send_metric<M: Metric>(&self, metric: &M) -> MetricResult<()> {
-        self.sink.emit(metric.as_metric_str())?;
+        match &self.telemetry {
+            None => self.sink.emit(metric.as_metric_str())?,
+            Some(telemetry) => {
+                telemetry.report(&*self.sink);
+                self.sink.emit(metric.as_metric_str()).inspect_err(|_| telemetry.count_refused())?
+            }
+        };
         Ok(())
     }
 
@@ -355,41 +378,3 @@ pub trait CountedExt: Counted<i64> {
 }
 
 impl CountedExt for StatsdClient {}
-
-/// All calls of a client, for code that takes any client or stores one in a box.
-///
-/// ```
-/// use cadence::{MetricClient, NopMetricSink, StatsdClient};
-///
-/// let client: Box<dyn MetricClient> = Box::new(StatsdClient::from_sink("my.service", NopMetricSink));
-/// client.count("visits", 1).unwrap();
-/// client.histogram("size", vec![0.5, 1.5]).unwrap();
-/// ```
-pub trait MetricClient:
-    Counted<i64>
-    + Counted<i32>
-    + Counted<u64>
-    + Counted<u32>
-    + CountedExt
-    + Timed<u64>
-    + Timed<Duration>
-    + Timed<Vec<u64>>
-    + Timed<Vec<Duration>>
-    + Gauged<u64>
-    + Gauged<f64>
-    + Metered<u64>
-    + Histogrammed<u64>
-    + Histogrammed<f64>
-    + Histogrammed<Duration>
-    + Histogrammed<Vec<u64>>
-    + Histogrammed<Vec<f64>>
-    + Histogrammed<Vec<Duration>>
-    + Distributed<u64>
-    + Distributed<f64>
-    + Distributed<Vec<u64>>
-    + Distributed<Vec<f64>>
-    + Setted<i64>
-{
-}
-
-impl MetricClient for StatsdClient {}

@@ -59,12 +59,12 @@ pub const DEFAULT_PORT: u16 = 8125;
 
 pub use self::builder::MetricBuilder;
 pub use self::client::{
-    Counted, CountedExt, Distributed, Gauged, Histogrammed, Metered, MetricClient, Setted, StatsdClient, StatsdClientBuilder,
-    Timed,
+    Counted, CountedExt, Distributed, Gauged, Histogrammed, Metered, Setted, StatsdClient, StatsdClientBuilder, Timed,
 };
 pub use self::environment::{Environment, EnvironmentError, Target};
 pub use self::event::{AlertType, Event, EventBuilder, Priority, ServiceCheck, ServiceCheckBuilder, ServiceStatus};
 pub use self::guard::TimingGuard;
+pub use self::metric_client::MetricClient;
 pub use self::sinks::{
     AggregatingMetricSink, AggregatingMetricSinkBuilder, BufferedSpyMetricSink, BufferedUdpMetricSink,
     BufferedUdpMetricSinkBuilder, BufferedUnixMetricSink, LineKey, MetricSink, NopMetricSink, QueuePolicy, QueuingMetricSink,
@@ -83,6 +83,7 @@ mod guard;
 mod io;
 mod layout;
 mod line;
+mod metric_client;
 #[allow(unsafe_code)]
 mod packer;
 pub mod prelude;
@@ -92,6 +93,7 @@ mod sinks;
 #[allow(unsafe_code)]
 mod sums;
 mod sync;
+mod telemetry;
 mod types;
 mod value;
 

@@ -9,4 +9,5 @@
 //! client.gauge("load", 0.75).unwrap();
 //! client.set("users", 42).unwrap();
 //! ```
-pub use crate::client::{Counted, CountedExt, Distributed, Gauged, Histogrammed, Metered, MetricClient, Setted, Timed};
+pub use crate::client::{Counted, CountedExt, Distributed, Gauged, Histogrammed, Metered, Setted, Timed};
+pub use crate::metric_client::MetricClient;

@@ -18,6 +18,7 @@ from .environment import UNIX
 from .errors import Status, StatusError
 from .metrics import Metrics, Tags
 from .pipeline import Pipeline
+from .telemetry import Telemetry
 
 _log = logging.getLogger("statsd_proved")
 
@@ -71,15 +72,24 @@ class StatsClient(Metrics):
     text of a set is refused with a StatusError of the status SEPARATOR, and no line of it is kept. So no text can make,
     change or split a metric. Tags with keys are then dicts or pairs, because a text as "page:home" has a colon. The
     constructor raises this error if the prefix, a tag or the container of the client has such a character.
+
+    If `telemetry` is a prefix, the client sends its own counts: a flush first keeps a counter for each of `packets_sent`,
+    `packets_dropped`, `packets_refused` and `lines_refused` (`sent`, `dropped`, `refused` and `bad` of `counts`) that has
+    grown since the last report, after that prefix and a dot, with the default tags and the default container. There is at
+    most one report in `telemetry_min_flush_interval` seconds, and the packet of a report counts in the next one.
     """
 
     def __init__(self, host: str = "localhost", port: int = 8125, prefix: str | None = None, maxudpsize: int = 512,
                  ipv6: bool = False, *, tags: Tags | None = None, container: str | None = None, packets: int = 64,
                  flush_every: float | None = 1.0, on_error: Callable[[Exception], object] | None = None,
-                 raises: bool = False, strict: bool = False, aggregate: bool = False) -> None:
+                 raises: bool = False, strict: bool = False, aggregate: bool = False, telemetry: str | None = None,
+                 telemetry_min_flush_interval: float = 10.0) -> None:
         tags = list(tags.items()) if isinstance(tags, Mapping) else tags
         self._settings = (prefix.rstrip(".") + "." if prefix else "", maxudpsize, packets, strict, tags, container)
         self._packer = Packer(*self._settings, aggregate)
+        self._telemetry = None
+        if telemetry is not None:
+            self._telemetry = Telemetry(telemetry, telemetry_min_flush_interval, strict, tags, container)
         self._adds_up = aggregate
         self._flush_every = flusher.period(flush_every)
         self._at_once = flush_every == 0
@@ -100,7 +110,8 @@ class StatsClient(Metrics):
                          maxudpsize: int | None = None, ipv6: bool = False, tags: Tags | None = None,
                          container: str | None = None, packets: int = 64, flush_every: float | None = 1.0,
                          on_error: Callable[[Exception], object] | None = None, raises: bool = False, strict: bool = False,
-                         aggregate: bool = False) -> Self:
+                         aggregate: bool = False, telemetry: str | None = None,
+                         telemetry_min_flush_interval: float = 10.0, origin_detection: bool | None = None) -> Self:
         """Makes a client that sends to the address and has the tags of the variables of the environment. An empty variable
         counts as not set, and a variable that another one overrides isn't read.
 
@@ -117,6 +128,9 @@ class StatsClient(Metrics):
         A packet has at most 1432 bytes over UDP, unless STATSD_MAXUDPSIZE says otherwise, and 8192 bytes over a Unix socket.
         `maxudpsize` wins over both.
 
+        If DD_ORIGIN_DETECTION_ENABLED says yes, the container is that of the process, by the file /proc/self/cgroup;
+        `container` and `origin_detection` win over it.
+
         The arguments are those of the constructor. With `host` or `port` no variable of an address is read, and without
         `prefix` it is that of STATSD_PREFIX. `tags` come after
         those of the variables. The call raises a VariableError if a variable can't be used, before it makes anything, and
@@ -127,10 +141,13 @@ class StatsClient(Metrics):
         prefix = environment.prefix(os.environb) if prefix is None else prefix
         own = tags or ()
         tags = [*environment.tags(os.environb), *(own.items() if isinstance(own, Mapping) else own)]
+        if container is None:
+            container = environment.container(os.environb, origin_detection)
         return cls(host="localhost" if host is None else host, port=8125 if port is None else port, prefix=prefix,
                    maxudpsize=1432 if maxudpsize is None else maxudpsize, ipv6=ipv6, tags=tags, container=container,
                    packets=packets, flush_every=flush_every, on_error=on_error, raises=raises, strict=strict,
-                   aggregate=aggregate)
+                   aggregate=aggregate, telemetry=telemetry,
+                   telemetry_min_flush_interval=telemetry_min_flush_interval)
 
     def __reduce__(self) -> NoReturn:
         raise TypeError("a StatsClient can't be copied or pickled: make another one")
@@ -268,6 +285,8 @@ class StatsClient(Metrics):
             return
         self._begin()
         self._packer.renew()
+        if self._telemetry is not None:
+            self._telemetry.renew()
         if self._name is not None:
             self._name.renew()
         for pipeline in list(self._pipelines):
@@ -330,8 +349,16 @@ class StatsClient(Metrics):
             finally:
                 del fault, faults[:]  # the error leads to this frame, so this frame must not lead to the error
 
+    def _add_counts(self) -> None:
+        """Keeps the counters of the client's own counts, if it sends them."""
+        if self._telemetry is not None and not self._is_sending:
+            _, _, _, _, dropped = self._packer.counts()
+            self._telemetry.report({"packets_sent": self._sent, "packets_dropped": dropped + self._lost,
+                                    "packets_refused": self._refusals, "lines_refused": self._bad_calls}, self._packer.line)
+
     def _flush(self) -> list[Exception]:
         with self._sending:
+            self._add_counts()
             faults = self._send_all()
             while not self._pack(faults) and self._refused is None and not self._is_sending:
                 faults += self._send_all()
