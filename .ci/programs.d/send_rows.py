@@ -2,8 +2,8 @@
 import errno, os
 
 from running import report_line
-from send_words import (EACH, LONGEST_PATH, MALFORMED, NO_HOST, ONE, ONE_SENT, OVERRIDDEN, UNUSABLE, WANTED, WANTS_KIND, WANTS_LENGTH, WANTS_NAME,
-                        WANTS_TAG, WANTS_TEXT, WANTS_VALUES, WANTS_WORDS, WRITTEN, error_lines, system_error)
+from send_words import (CHECK, EACH, EVENT, LONGEST_PATH, MALFORMED, NO_HOST, ONE, ONE_SENT, OVERRIDDEN, UNUSABLE, WANTED, WANTS_KIND, WANTS_LENGTH,
+                        WANTS_NAME, WANTS_TAG, WANTS_TEXT, WANTS_VALUES, WANTS_WORDS, WRITTEN, error_lines, system_error)
 
 # Options; and texts, each with the lines that are sent and the messages about its other lines.
 ADDING = ['--print', '--prefix', 'p', '--tag', 'k:v']
@@ -51,6 +51,12 @@ SEND_CASES = [
      b''),
     ('tags of the environment on lines', ['--print'], {'DD_TAGS': 'a b:c'}, b'c x 1\nc y 2 own\n', 0,
      report_line(b'x:1|c|#a,b:c\ny:2|c|#a,b:c,own\n'), b''),
+    *[(f'the defaults of {words}', ['--print', '--tag', 'own', *words, 't'], {'DD_TAGS': 'team:shop,a:b:c', 'DD_ENV': 'prod'}, b'', 0,
+       report_line(line + b'|#env:prod,team:shop,a:b:c,own,t\n'), b'')
+      for words, line in [(EVENT, b'_e{6,11}:Deploy|version 2.1'), (CHECK, b'_sc|web|2')]],
+    ('an event past UDP', ['--to', '127.0.0.1:9', 'event', 'a' * 65507, ''], {}, b'', 2, b'', error_lines(WANTS_LENGTH)),
+    ('an event and a service check of a pipe', ['--print'], {}, b'event a b\ncheck a ok\nc a 1\n', 2, report_line(b'a:1|c\n'),
+     error_lines(b'line 1: ' + WANTS_KIND, b'line 2: ' + WANTS_KIND, b'2 of 3 lines: cannot read')),
     ('malformed tags, printed', ['--print', *ONE], {'DD_TAGS': 'a|b'}, b'', 2, b'',
      error_lines(f"DD_TAGS wants {WANTED['DD_TAGS']}".encode())),
     ('strict words', ['--print', '--strict', *ONE], {'DD_TAGS': 'k:v,w'}, b'', 0, report_line(b'visits:1|c|#k:v,w,page:home\n'), b''),

@@ -14,9 +14,14 @@ def system_error(doing, number):
 LONGEST_PATH = '/nowhere/' + 'a' * 98  # a path of 107 bytes, the most that a Unix socket can have
 ONE = ['c', 'visits', '1', 'page:home']
 ONE_SENT = b'visits:1|c|#page:home\n'
+EVENT = ['event', 'Deploy', 'version 2.1']
+CHECK = ['check', 'web', 'critical']
 NO_HOST = 'a' * 64
+EVENT_FIELDS = ('--host web-1 --aggregation-key deploy --priority low --source jenkins --alert success --time 7 --tag k:v'
+                ' --container id').split()
 EACH = '--prefix p --tag k:v --tag w --container id --time +.7e1 --rate 5e-1'.split()
-OPTIONS = b'--to --prefix --tag --container --time --rate --sample --capacity --flush-every --aggregate --wait --drop --strict --print --help --version'.split()
+OPTIONS = (b'--to --prefix --tag --container --time --rate --sample --capacity --flush-every --aggregate --wait --drop --strict '
+           b'--print --help --version --host --aggregation-key --priority --source --alert --message').split()
 WANTS_WORDS = b'wants KIND NAME VALUE [TAG ..], as in `c visits 1 page:home`'
 WANTS_KIND = b'KIND is c, ms, g, m, h, s, d or the name of one, as in `count visits 1`'
 WANTS_NAME = b'NAME has no colon, comma, bar or newline, as in `c site.visits 1`'
@@ -30,7 +35,10 @@ WANTS_VALUES = {
     'd': b'VALUE of d is numbers, as in `d size 0.75,12`',
 }
 WANTS_TAG = b'TAG is K:V or V, and has no comma, bar or second colon, as in `c visits 1 page:home`'
-WANTS_LENGTH = b'the metric is longer than a datagram can be'
+WANTS_LENGTH = b'the line is longer than a datagram can be'
+WANTS_EVENT = b"wants event TITLE TEXT [TAG ..], as in `event Deploy 'version 2.1'`"
+WANTS_CHECK = b'wants check NAME STATUS [TAG ..], as in `check web ok`'
+WANTS_STATUS = b'STATUS is ok, warning, critical, unknown or 0 to 3, as in `check web critical`'
 WANTS_TEXT = b'not UTF-8: wants text, as in `c visits 1 page:home`'
 WANTED = {
     'DD_DOGSTATSD_URL': 'udp://HOST[:PORT] or unix:///PATH, datagrams only',
@@ -85,6 +93,28 @@ UNUSABLE = [
     (['g', 'load', '-1one'], WANTS_VALUES['g']),
     (['c', 'visits', '1', 'a,b'], WANTS_TAG),
     (['c', b'\xff', '1'], b'a word of the command line is ' + WANTS_TEXT),
+    *[(words, WANTS_EVENT) for words in (['event'], ['event', 'Deploy'])],
+    *[(words, WANTS_CHECK) for words in (['check'], ['check', 'web'])],
+    *[(['check', 'web', status], WANTS_STATUS) for status in ['OK', '4', '-1', '', '00', 'warn']],
+    *[(['check', name, 'ok'], WANTS_NAME) for name in ['', 'a:b', 'a,b', 'a|b', 'a\nb']],
+    (['event', 'a', 'b', 'k:v:w'], WANTS_TAG),
+    (['check', 'a', 'ok', 'k,v'], WANTS_TAG),
+    *[(['--host', host, *EVENT], b'--host %s: wants a name without colons, commas, bars and newlines, as in --host web-1' % host.encode())
+      for host in ['', 'a:b', 'a,b', 'a|b', 'a\nb']],
+    (['--aggregation-key', 'a|b', *EVENT],
+     b'--aggregation-key a|b: wants a text without colons, commas, bars and newlines, as in --aggregation-key deploy'),
+    (['--source', 'a:b', *EVENT], b'--source a:b: wants a text without colons, commas, bars and newlines, as in --source jenkins'),
+    (['--priority', 'high', *EVENT], b'--priority high: wants low or normal, as in --priority low'),
+    (['--alert', 'fatal', *EVENT], b'--alert fatal: wants error, warning, info or success, as in --alert error'),
+    (['--message', 'a|b', *CHECK], b"--message a|b: wants a text without bars, as in --message 'no answer'"),
+    *[([*option, *words], b"%s can't be used with %s" % (option[0].encode(), what)) for words, what, options in [
+        (ONE, b'a metric', [['--host', 'h'], ['--aggregation-key', 'k'], ['--priority', 'low'], ['--source', 's'], ['--alert', 'info'],
+                            ['--message', 'm']]),
+        ([], b'a metric', [['--alert', 'info']]),
+        (EVENT, b'an event', [['--message', 'm'], ['--rate', '0.5'], ['--sample', '0.5']]),
+        (CHECK, b'a service check', [['--aggregation-key', 'k'], ['--priority', 'low'], ['--source', 's'], ['--alert', 'info'],
+                                     ['--rate', '0.5'], ['--sample', '0.5']]),
+    ] for option in options],
 ]
 # Words that are no options of the program, each with a part of the message.
 STRAY = [
@@ -107,4 +137,20 @@ WRITTEN = [
     (['g', 'load', '-.5e1'], b'load:-5|g\n'),
     (['g', 'load', '+3'], b'load:3|g\n'),
     (['--sample', '1', 'c', 'a', '1'], b'a:1|c|@1\n'),
+    (EVENT, b'_e{6,11}:Deploy|version 2.1\n'),
+    (CHECK, b'_sc|web|2\n'),
+    ([*EVENT, *EVENT_FIELDS, 'own:v'],
+     b'_e{6,11}:Deploy|version 2.1|d:7|h:web-1|k:deploy|p:low|s:jenkins|t:success|#k:v,own:v|c:id\n'),
+    (['--message', 'no answer:m:', '--time', '7', '--container', 'id', *CHECK, 'own', '--host', 'web-1', '--tag', 'k:v'],
+     b'_sc|web|2|d:7|h:web-1|#k:v,own|c:id|m:no answer:m\\:\n'),
+    (['--message', '', *CHECK], b'_sc|web|2\n'),
+    (['--prefix', 'p', *EVENT], b'_e{6,11}:Deploy|version 2.1\n'),
+    (['--aggregate', '--flush-every', '0', '--prefix', 'p', *CHECK], b'_sc|web|2\n'),
+    (['event', 'a|b:c,\n', ''], b'_e{8,0}:a|b:c,\\n|\n'),
+    (['event', '', '\u00e9', 'k'], b'_e{0,2}:|\xc3\xa9|#k\n'),
+    (['event', 'event', 'check'], b'_e{5,5}:event|check\n'),
+    *[(['event', 'a', 'b', '--alert', alert], b'_e{1,1}:a|b|t:%s\n' % alert.encode()) for alert in ['error', 'warning', 'info', 'success']],
+    *[(['event', 'a', 'b', '--priority', priority], b'_e{1,1}:a|b|p:%s\n' % priority.encode()) for priority in ['low', 'normal']],
+    *[(['check', 'a', status], b'_sc|a|%d\n' % number) for number, name in enumerate(['ok', 'warning', 'critical', 'unknown'])
+      for status in (name, str(number))],
 ]

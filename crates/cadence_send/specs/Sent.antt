@@ -5,8 +5,10 @@ use Rattle.std.specs.List.{AllZip, filter_map, slice_split}
 use Rattle.cadence_flow.specs.Frame.{stream}
 use Rattle.cadence_flow.specs.Packer.{Packer, packer_state, whole_text}
 use Rattle.cadence_flow.specs.Writer.{PacketHistory, Reports, TakesWhole, WriterKind}
-use Rattle.cadence_words.specs.Lines.{IsLineOfText, IsLineOfWords}
+use Rattle.cadence_words.specs.Commands.{IsLineOfCommand}
+use Rattle.cadence_words.specs.Lines.{IsLineOfText}
 use Rattle.cadence_words.specs.declared.defaults.Defaults.{Defaults}
+use Rattle.cadence_words.specs.declared.events.Fields.{Fields}
 
 -- the text without the carriage return at its end, if it has one
 abbrev pub without_return : List ℕ → List ℕ
@@ -64,10 +66,9 @@ pub record SendsTexts {S Z : Type 0} (d : Defaults Z) (takes : S → S → List 
   pub none_held : is_sent new
 
 -- If no part of the words was reported as unreadable, the packer took the line of the words, and no text is held any
--- more. Otherwise the words ask for no metric, or for one whose line is longer than a line may be, and the packer is
--- unchanged.
-abbrev pub SendsWords : {W Z X : Type 0} → Defaults Z → (W → WriterKind) → (W → PacketHistory) → Packer W → Packer W → List (List ℕ)
-    → Option X → Type 0
-SendsWords d kind history old new words None =
-    (line : List ℕ) × IsGiven d (IsLineOfWords d words) line × TakesLines kind history old new (line ∷ []) × (new.held ≡ [])
-SendsWords d kind history old new words (Some why) = HasNoLine d (IsLineOfWords d words) × (new ≡ old)
+-- more. Otherwise the words ask for no line, or for one that is longer than a line may be, and the packer is unchanged.
+abbrev pub SendsWords : {W Z X : Type 0} → Defaults Z → Fields → (W → WriterKind) → (W → PacketHistory) → Packer W → Packer W
+    → List (List ℕ) → Option X → Type 0
+SendsWords d fields kind history old new words None =
+    (line : List ℕ) × IsGiven d (IsLineOfCommand d fields words) line × TakesLines kind history old new (line ∷ []) × (new.held ≡ [])
+SendsWords d fields kind history old new words (Some why) = HasNoLine d (IsLineOfCommand d fields words) × (new ≡ old)

@@ -9,7 +9,8 @@
 //! - `outlet`: the place to which packets go, as messages name it.
 //! - `pace`: when buffered lines are sent before more input is read.
 //! - `packets`: prints packets.
-//! - `run`: sends one metric, or those of an input, and returns the exit status.
+//! - `run`: sends the line of some words, or the metrics of an input, and returns the exit status.
+//! - `setting`: the options that have a value, and what is wrong with such an option.
 //! - `summed`: lines that are added up before a packer takes them.
 //! - `taker`: what takes the lines of the engine: a packer, or sums over a packer.
 //! - `tidings`: reports how much was lost while a run goes on, at most once a minute.
@@ -25,6 +26,7 @@ mod outlet;
 mod pace;
 mod packets;
 mod run;
+mod setting;
 mod summed;
 mod taker;
 mod tidings;
@@ -33,10 +35,11 @@ pub use board::{LossBoard, Losses};
 pub use engine::{Sending, TextCounts};
 pub use error::RunError;
 pub use lasting::LastingWriter;
-pub use options::{Destination, OptionError, Options, Setting};
+pub use options::{Destination, Options};
 pub use outlet::Outlet;
 pub use pace::Pace;
 pub use packets::PacketPrinter;
 pub use run::{run_words, send_words};
+pub use setting::{Misplaced, OptionError, Setting};
 pub use summed::SummedPacker;
 pub use taker::LineTaker;

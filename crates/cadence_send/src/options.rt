@@ -2,15 +2,17 @@
 ghost use Rattle.std.specs.Prelude.{◌≡◌, IfSome, None, OnOk};
 ghost use Rattle.cadence_send.specs.Target.{IsTarget, SaysDestination, SaysWhere};
 
+use crate::setting::{Misplaced, OptionError, Setting};
 use cadence_environment::read_port;
 use cadence_errors::{InputError, MetricError};
 use cadence_flow::io::DEFAULT_CAPACITY;
 use cadence_settings::ClientSettings;
 use cadence_text::line::{OwnedTag, Tag, lend_tag};
 use cadence_value::decimal::Decimal;
-use cadence_words::{Chance, Defaults, is_word, read_printed, read_tag};
+use cadence_words::{
+    Chance, Defaults, Fields, Subject, is_word, read_alert, read_printed, read_priority, read_tag,
+};
 use std::alloc::Allocator;
-use std::fmt;
 
 /// The place to which packets are sent.
 #[derive(Clone, Copy, Debug, PartialEq, Eq)]
@@ -34,6 +36,8 @@ pub struct Options<'a, A: Allocator> {
     pub container: Option<&'a str>,
     /// The time in seconds since 1970.
     pub time: Option<u64>,
+    /// What an event or a service check has besides.
+    pub fields: Fields<'a>,
     /// The sampling rate that each line says.
     pub rate: Option<Decimal>,
     /// The chance with which a line is sent. Without one every line is.
@@ -54,100 +58,6 @@ pub struct Options<'a, A: Allocator> {
     pub is_dropping: bool,
 }
 
-/// An option of the command line that has a value.
-#[derive(Clone, Copy, Debug, PartialEq, Eq)]
-pub enum Setting {
-    /// The place to which packets are sent.
-    To,
-    /// The prefix of all names.
-    Prefix,
-    /// A default tag.
-    Tag,
-    /// The container.
-    Container,
-    /// The time in seconds since 1970.
-    Time,
-    /// The sampling rate that each line says.
-    Rate,
-    /// The chance with which a line is sent. It is also added to each line that is sent, as the sampling rate.
-    Sample,
-    /// The capacity of a packet in bytes.
-    Capacity,
-    /// The most milliseconds that buffered lines wait.
-    FlushEvery,
-    /// The most milliseconds that packets wait for room at a Unix socket.
-    Wait,
-}
-
-impl Setting {
-    /// All settings.
-    pub const ALL: [Setting; 10] = [
-        Setting::To,
-        Setting::Prefix,
-        Setting::Tag,
-        Setting::Container,
-        Setting::Time,
-        Setting::Rate,
-        Setting::Sample,
-        Setting::Capacity,
-        Setting::FlushEvery,
-        Setting::Wait,
-    ];
-
-    /// Returns the name of the option, without its dashes.
-    pub fn name(self) -> &'static str {
-        match self {
-            Setting::To => "to",
-            Setting::Prefix => "prefix",
-            Setting::Tag => "tag",
-            Setting::Container => "container",
-            Setting::Time => "time",
-            Setting::Rate => "rate",
-            Setting::Sample => "sample",
-            Setting::Capacity => "capacity",
-            Setting::FlushEvery => "flush-every",
-            Setting::Wait => "wait",
-        }
-    }
-
-    // Returns what the value of the option has to be, with an example.
-    fn wanted(self) -> &'static str {
-        match self {
-            Setting::To => "HOST:PORT or unix:PATH, as in --to 127.0.0.1:8125",
-            Setting::Prefix => {
-                "a name without colons, commas and bars, as in --prefix my.service"
-            }
-            Setting::Tag => "K:V or V, as in --tag env:live",
-            Setting::Container => "an id, as in --container 9f2c",
-            Setting::Time => "seconds since 1970, as in --time 1700000000",
-            Setting::Rate => "a number above 0, as in --rate 0.1",
-            Setting::Sample => {
-                "a number above 0 and at most 1 with at most 18 decimal places, as in --sample 0.1"
-            }
-            Setting::Capacity => "a number of bytes, as in --capacity 512",
-            Setting::FlushEvery => "a number of milliseconds, as in --flush-every 1000",
-            Setting::Wait => "a number of milliseconds, as in --wait 1000",
-        }
-    }
-}
-
-/// An option that can't have its value. Its text says what the value has to be.
-#[derive(Clone, Copy, Debug, PartialEq, Eq)]
-pub struct OptionError<'a> {
-    /// The option.
-    pub setting: Setting,
-    /// The value.
-    pub value: &'a str,
-}
-
-/// What is wrong with the value, and how the option is used.
-impl fmt::Display for OptionError<'_> {
-    fn fmt<W: fmt::Write>(&self, f: &mut fmt::Formatter<W>) -> fmt::Result {
-        let (value, option, wanted) = (self.value, self.setting.name(), self.setting.wanted());
-        write!(f, "--{option} {value}: wants {wanted}")
-    }
-}
-
 // Reads a whole number.
 fn read_whole(value: &str) -> Option<u64> {
     let number = read_printed(value)?;
@@ -165,6 +75,29 @@ fn read_positive(value: &str) -> Option<Decimal> {
 // Reads a name, or an id.
 fn read_word(value: &str) -> Option<&str> {
     if is_word(value) { Some(value) } else { None }
+}
+
+// Reads the message of a service check. An empty one is left out.
+fn read_message(value: &str) -> Option<Option<&str>> {
+    if value.as_bytes().contains(&b'|') {
+        return None;
+    }
+    Some(if value.is_empty() { None } else { Some(value) })
+}
+
+// Returns these fields of an event or of a service check with the value of this option.
+fn with_field<'a>(fields: Fields<'a>, setting: Setting, value: &'a str) -> Option<Fields<'a>> {
+    let mut fields = fields;
+    match setting {
+        Setting::Host => fields.host = Some(read_word(value)?),
+        Setting::AggregationKey => fields.key = Some(read_word(value)?),
+        Setting::Priority => fields.priority = Some(read_priority(value)?),
+        Setting::Source => fields.source = Some(read_word(value)?),
+        Setting::Alert => fields.alert = Some(read_alert(value)?),
+        Setting::Message => fields.message = read_message(value)?,
+        _ => return None,
+    }
+    Some(fields)
 }
 
 // Reads HOST:PORT.
@@ -216,6 +149,7 @@ impl<'a, A: Allocator> Options<'a, A> {
             tags: Vec::new(alloc),
             container: None,
             time: None,
+            fields: Fields::NONE,
             rate: None,
             sample: None,
             capacity: DEFAULT_CAPACITY,
@@ -258,8 +192,35 @@ impl<'a, A: Allocator> Options<'a, A> {
             Setting::Capacity => self.capacity = read_whole(value).ok_or(refused)? as usize,
             Setting::FlushEvery => self.flush_every = Some(read_whole(value).ok_or(refused)?),
             Setting::Wait => self.wait = Some(read_whole(value).ok_or(refused)?),
+            _ => self.fields = with_field(self.fields, setting, value).ok_or(refused)?,
         }
         Ok(())
+    }
+
+    // Returns whether an option was set that can't be used with all words.
+    fn is_set(&self, setting: Setting) -> bool {
+        match setting {
+            // The option for the sample sets the rate too.
+            Setting::Rate => self.rate.is_some() && self.sample.is_none(),
+            Setting::Sample => self.sample.is_some(),
+            Setting::Host => self.fields.host.is_some(),
+            Setting::AggregationKey => self.fields.key.is_some(),
+            Setting::Priority => self.fields.priority.is_some(),
+            Setting::Source => self.fields.source.is_some(),
+            Setting::Alert => self.fields.alert.is_some(),
+            Setting::Message => self.fields.message.is_some(),
+            _ => false,
+        }
+    }
+
+    /// Returns an option that was set and can't be used with words that ask for this, if there is one.
+    pub fn misplaced(&self, subject: Subject) -> Option<Misplaced> {
+        for setting in Setting::ALL {
+            if self.is_set(setting) && !setting.is_for(subject) {
+                return Some(Misplaced { setting, subject });
+            }
+        }
+        None
     }
 }
 

@@ -1,4 +1,4 @@
-//! Sends one metric, or those of an input, and returns the exit status.
+//! Sends the line of some words, or the metrics of an input, and returns the exit status.
 ghost use Rattle.std.specs.Prelude.{◌≡◌, ◌≤◌, ◌⊎◌, [], IfSome, IsOk, OnErr, OnOk, IfOk, map};
 ghost use Rattle.cadence_send.specs.Losses.{lasting_kind, losses_of};
 ghost use Rattle.cadence_send.specs.Sent.{SendsTexts, SendsWords, TakesFirst, texts_of_input};
@@ -14,27 +14,28 @@ use crate::pace::Pace;
 use crate::summed::SummedPacker;
 use crate::taker::LineTaker;
 use cadence_flow::io::{LineBuffer, PacketWriter};
-use cadence_words::{Defaults, Part, WordError, write_line_of_words};
+use cadence_words::{Defaults, Fields, Part, WordError, line_of_command};
 use std::alloc::Allocator;
 use std::io::{Read, Write};
 
-/// Sends the text that is held, and then the metric of the words. If the words ask for no metric, or the metric's line is
-/// longer than a line may be, this function sends nothing and returns the part that can't be read.
+/// Sends the text that is held, and then the line for which the words ask: that of a metric, or of an event or a service
+/// check, which has these fields. If the words ask for no line, or the line is longer than a line may be, this function
+/// sends nothing and returns the part that can't be read.
 ///
 /// # Errors
 /// `Writer` if a packet is refused, and `OutOfMemory`.
-pub fn send_words<T: PacketWriter, A: Allocator + Clone>(
+pub fn send_words<'a, T: PacketWriter, A: Allocator + Clone>(
     alloc: &A,
     defaults: &Defaults<A>,
+    fields: &Fields<'a>,
     lines: &mut LineBuffer<T, A>,
-    words: &[&str],
+    words: &[&'a str],
 ) -> Result<Option<Part>, RunError>
-    ensures { IfOk result (SendsWords defaults.now T.kind T.history lines.old lines.new
+    ensures { IfOk result (SendsWords defaults.now fields.now T.kind T.history lines.old lines.new
         (map (λ w. w.now) words.now)) }
 {
-    let mut line = Vec::new(alloc.clone()?);
-    match write_line_of_words(alloc, defaults, &mut line, words) {
-        Ok(()) => {
+    match line_of_command(alloc, defaults, fields, words) {
+        Ok(line) => {
             if line.len() > defaults.longest {
                 return Ok(Some(Part::Length));
             }
@@ -59,20 +60,21 @@ fn report_error<E: Write>(error: RunError, outlet: Outlet<'_>, errors: &mut E) -
     status
 }
 
-/// Sends the metric of the words with `send_words`, and returns the exit status of the program: 0 if the metric was
-/// sent, 1 if a packet was refused, 2 if the words ask for no metric, and 3 if memory ran out. For every status but 0,
-/// one line is written to `errors`. An error of `errors` is ignored.
-pub fn run_words<T: PacketWriter, E: Write, A: Allocator + Clone>(
+/// Sends the line of the words with `send_words`, and returns the exit status of the program: 0 if the line was sent, 1
+/// if a packet was refused, 2 if the words ask for no line, and 3 if memory ran out. For every status but 0, one line is
+/// written to `errors`. An error of `errors` is ignored.
+pub fn run_words<'a, T: PacketWriter, E: Write, A: Allocator + Clone>(
     alloc: &A,
     defaults: &Defaults<A>,
+    fields: &Fields<'a>,
     lines: &mut LineBuffer<T, A>,
-    words: &[&str],
+    words: &[&'a str],
     outlet: Outlet<'_>,
     errors: &mut E,
 ) -> u8
     ensures { result ≤ 3 }
 {
-    match send_words(alloc, defaults, lines, words) {
+    match send_words(alloc, defaults, fields, lines, words) {
         Ok(None) => 0,
         Ok(Some(part)) => {
             let _ = writeln!(errors, "statsd_send: {part}");

@@ -1,6 +1,8 @@
 pub mod Asked
 pub mod Chances
+pub mod Commands
 pub mod Duration
+pub mod Events
 pub mod Finds
 pub mod Lines
 pub mod Printed

@@ -1,10 +1,12 @@
-//! Makes the line of a metric from the words that ask for it, whose numbers are written as tools print them; and takes
-//! samples of lines with a chance that is such a number.
+//! Makes the line of a metric from the words that ask for it, whose numbers are written as tools print them, and that
+//! of an event or of a service check; and takes samples of lines with a chance that is such a number.
 //!
+//! - `command`: makes the one line for which the words of a command line ask.
 //! - `decimal`: reads decimal numbers in the form of a line.
 //! - `defaults`: what a command line adds to each metric.
 //! - `digits`: the digits of a number, and the number that they and an exponent make.
 //! - `duration`: reads durations.
+//! - `events`: makes the lines of events and service checks from their words.
 //! - `line`: writes the line of a metric from its words.
 //! - `parts`: splits a number into its sign, its digits and its exponent.
 //! - `printed`: reads numbers as tools print them.
@@ -14,10 +16,12 @@
 //! - `words`: splits a line into words, and reads single words.
 #![tactic(auto)]
 
+mod command;
 mod decimal;
 mod defaults;
 mod digits;
 mod duration;
+mod events;
 mod line;
 mod parts;
 mod printed;
@@ -26,8 +30,10 @@ mod value;
 mod word_error;
 mod words;
 
+pub use command::{Subject, line_of_command, subject_of};
 pub use defaults::Defaults;
 pub use duration::read_duration;
+pub use events::{Fields, read_alert, read_priority};
 pub use line::{write_line_of_text, write_line_of_words};
 pub use printed::read_printed;
 pub use sample::{Chance, SampledReader, Sampler};

@@ -1,5 +1,6 @@
 //! Why words can't be read.
-use cadence_errors::InputError;
+use cadence_errors::{InputError, Reason};
+use cadence_events::Unfit;
 use cadence_text::line::MetricType;
 use std::fmt;
 
@@ -18,8 +19,16 @@ pub enum Part {
     Value(MetricType),
     /// A tag is empty, or has a separator that a tag can't have.
     Tag,
-    /// The metric's line is longer than a datagram.
+    /// The line is longer than a datagram.
     Length,
+    /// The words that begin with `event` are fewer than three.
+    EventWords,
+    /// The words that begin with `check` are fewer than three.
+    CheckWords,
+    /// The status of a service check is not one that it has.
+    Status,
+    /// This text of an event or of a service check can't stand in its line.
+    Field(Unfit),
 }
 
 // Returns what the value of a metric of this kind has to be.
@@ -39,19 +48,34 @@ fn wanted_value(kind: MetricType) -> &'static str {
     }
 }
 
-impl fmt::Display for Part {
-    fn fmt<W: fmt::Write>(&self, f: &mut fmt::Formatter<W>) -> fmt::Result {
-        f.write_str(match self {
+impl Part {
+    // Returns what the part has to be.
+    fn message(self) -> &'static str {
+        match self {
             Part::Text => "not UTF-8: wants text, as in `c visits 1 page:home`",
             Part::Words => "wants KIND NAME VALUE [TAG ..], as in `c visits 1 page:home`",
             Part::Kind => "KIND is c, ms, g, m, h, s, d or the name of one, as in `count visits 1`",
             Part::Name => "NAME has no colon, comma, bar or newline, as in `c site.visits 1`",
-            Part::Value(kind) => wanted_value(*kind),
+            Part::Value(kind) => wanted_value(kind),
             Part::Tag => {
                 "TAG is K:V or V, and has no comma, bar or second colon, as in `c visits 1 page:home`"
             }
-            Part::Length => "the metric is longer than a datagram can be",
-        })
+            Part::Length => "the line is longer than a datagram can be",
+            Part::EventWords => {
+                "wants event TITLE TEXT [TAG ..], as in `event Deploy 'version 2.1'`"
+            }
+            Part::CheckWords => "wants check NAME STATUS [TAG ..], as in `check web ok`",
+            Part::Status => {
+                "STATUS is ok, warning, critical, unknown or 0 to 3, as in `check web critical`"
+            }
+            Part::Field(unfit) => unfit.message(),
+        }
+    }
+}
+
+impl fmt::Display for Part {
+    fn fmt<W: fmt::Write>(&self, f: &mut fmt::Formatter<W>) -> fmt::Result {
+        f.write_str(self.message())
     }
 }
 

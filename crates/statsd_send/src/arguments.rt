@@ -1,6 +1,7 @@
 //! The words of the command line: the options, which may stand before and after the other words.
 use cadence_errors::InputError;
-use cadence_send::{OptionError, Options, Setting};
+use cadence_send::{Misplaced, OptionError, Options, Setting};
+use cadence_words::subject_of;
 use clap::{Arg, ArgAction, ArgMatches, Command, Error};
 use std::alloc::{AllocError, AllocFailed, Global};
 
@@ -8,6 +9,8 @@ use std::alloc::{AllocError, AllocFailed, Global};
 pub const VERSION: &str = "0.8.0";
 
 const USAGE: &str = "statsd_send [OPTIONS] KIND NAME VALUE [TAG ..]   sends one metric
+       statsd_send [OPTIONS] event TITLE TEXT [TAG ..]   sends an event
+       statsd_send [OPTIONS] check NAME STATUS [TAG ..]   sends a service check
        statsd_send [OPTIONS]   reads one metric a line, and packs them";
 
 const NOTES: &str =
@@ -22,6 +25,7 @@ VALUE  c, s   a whole number; a member of a set can't be a name
        A plus is never sent: g load +3 sets the gauge to 3.
        Numbers, but not those of durations, may be as tools print them: .5, +1, 1e+06.
 TAG    K:V or V; behind --, and in --tag=TAG, also one that begins with a dash
+STATUS ok, warning, critical, unknown, or 0 to 3, as the status of a plugin of Nagios
 
 Status: 0 sent, 1 input or sending failed, or packets were lost, 2 words or lines that can't be read, 3 memory.
 As in: tail -F access.log | sed -un 's/.* \\([0-9][0-9]*\\) [0-9]*$/c hits 1 code:\\1/p' | statsd_send --flush-every 0
@@ -40,6 +44,10 @@ const TARGET: &str = "Target";
 
 const METRICS: &str = "Each metric";
 
+const LINES: &str = "Each line";
+
+const EVENTS: &str = "An event or a service check";
+
 const PACKETS: &str = "Packets";
 
 const TO: &str = "where to send, also as udp://HOST:PORT or unix:PATH [by default
@@ -47,7 +55,7 @@ DD_DOGSTATSD_URL of the environment, else DD_DOGSTATSD_SOCKET, else
 DD_AGENT_HOST and DD_DOGSTATSD_PORT, else STATSD_HOST and
 STATSD_PORT, else 127.0.0.1:8125]";
 
-const PREFIX: &str = "begins each name, with a dot after it";
+const PREFIX: &str = "begins the name of each metric, with a dot after it";
 
 const TAG: &str = "adds a tag, after those of DD_ENV, DD_SERVICE, DD_VERSION,
 DD_TAGS and DD_ENTITY_ID";
@@ -71,6 +79,19 @@ until a packet is full or the input ends";
 const AGGREGATE: &str = "adds up the counters, gauges and sets of the input, and sends the
 sums after each --flush-every [by default 10000], and at the end of
 the input; other lines are not added up";
+
+const HOST: &str = "the name of the host";
+
+const KEY: &str = "the aggregation key of an event: a server groups events
+that have the same one";
+
+const PRIORITY: &str = "low or normal: how much an event matters";
+
+const SOURCE: &str = "the source type of an event, as jenkins";
+
+const ALERT: &str = "error, warning, info or success: what kind of news an event is";
+
+const MESSAGE: &str = "why a service is in its state";
 
 // Returns the argument of an option that has a value. It may be there several times.
 fn option<'a>(
@@ -114,10 +135,10 @@ fn command<'a>(alloc: Global) -> Result<Command<'a>, AllocError> {
         .after_help(NOTES)
         .arg(words)?
         .arg(option(alloc, "to", "HOST:PORT", TO, TARGET))?
+        .arg(option(alloc, "tag", "TAG", TAG, LINES))?
+        .arg(option(alloc, "container", "ID", CONTAINER, LINES))?
+        .arg(option(alloc, "time", "SECONDS", TIME, LINES))?
         .arg(option(alloc, "prefix", "NAME", PREFIX, METRICS))?
-        .arg(option(alloc, "tag", "TAG", TAG, METRICS))?
-        .arg(option(alloc, "container", "ID", CONTAINER, METRICS))?
-        .arg(option(alloc, "time", "SECONDS", TIME, METRICS))?
         .arg(option(alloc, "rate", "NUMBER", RATE, METRICS))?
         .arg(sample)?
         .arg(option(alloc, "capacity", "BYTES", CAPACITY, PACKETS))?
@@ -126,7 +147,13 @@ fn command<'a>(alloc: Global) -> Result<Command<'a>, AllocError> {
         .arg(option(alloc, "wait", "MS", WAIT, TARGET))?
         .arg(flag(alloc, "drop", DROP, TARGET)?)?
         .arg(flag(alloc, "print", "prints the packets, and sends none", TARGET)?)?
-        .arg(flag(alloc, "strict", STRICT, METRICS)?)
+        .arg(flag(alloc, "strict", STRICT, LINES)?)?
+        .arg(option(alloc, "host", "NAME", HOST, EVENTS))?
+        .arg(option(alloc, "aggregation-key", "TEXT", KEY, EVENTS))?
+        .arg(option(alloc, "priority", "PRIORITY", PRIORITY, EVENTS))?
+        .arg(option(alloc, "source", "TEXT", SOURCE, EVENTS))?
+        .arg(option(alloc, "alert", "TYPE", ALERT, EVENTS))?
+        .arg(option(alloc, "message", "TEXT", MESSAGE, EVENTS))
 }
 
 /// What the command line asks for.
@@ -145,6 +172,8 @@ pub enum ArgumentError<'a> {
     Refused(Error),
     /// An option can't have its value.
     Value(OptionError<'a>),
+    /// An option is of no use with the words.
+    Misplaced(Misplaced),
     /// Memory ran out.
     OutOfMemory,
 }
@@ -222,7 +251,7 @@ fn set_options<'a>(
 ///
 /// # Errors
 /// `Refused` if the words ask for help or for the version, or have an option that this program lacks; `Value` if an
-/// option can't have its value; and `OutOfMemory`.
+/// option can't have its value; `Misplaced` if it is of no use with the words; and `OutOfMemory`.
 pub fn read_arguments<'a>(
     alloc: Global,
     given: &'a [String],
@@ -235,6 +264,9 @@ pub fn read_arguments<'a>(
         for word in found {
             words.push(unguarded(word))?;
         }
+    }
+    if let Some(misplaced) = options.misplaced(subject_of(&words)) {
+        return Err(ArgumentError::Misplaced(misplaced));
     }
     Ok(Arguments { options, words })
 }

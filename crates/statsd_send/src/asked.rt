@@ -46,7 +46,7 @@ pub fn asked_pace(
     Ok(Every::new(clock, input, period))
 }
 
-/// Returns how long packets wait for room at a Unix socket: the metric of the command line not at all, and those of an
+/// Returns how long packets wait for room at a Unix socket: the line of the command line not at all, and those of an
 /// input as the options `--drop` and `--wait` say.
 pub fn asked_patience(arguments: &Arguments<'_>) -> Patience {
     let options = &arguments.options;

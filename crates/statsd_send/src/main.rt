@@ -1,4 +1,4 @@
-//! `statsd_send`: sends the metric of its words, or the metrics of its standard input.
+//! `statsd_send`: sends the metric, the event or the service check of its words, or the metrics of its standard input.
 //!
 //! - `arguments`: the words of the command line.
 //! - `asked`: what the options ask for besides the target.
@@ -54,6 +54,7 @@ fn main(rt: HostRuntime) -> ExitCode {
             }
         },
         Err(ArgumentError::Value(why)) => exit_with_error(&rt, 2, why),
+        Err(ArgumentError::Misplaced(why)) => exit_with_error(&rt, 2, why),
         Err(ArgumentError::OutOfMemory) => exit_with_error(&rt, 3, OUT_OF_MEMORY),
     }
 }
@@ -79,7 +80,7 @@ fn no_memory(_error: AllocError) -> ErrorKind {
     ErrorKind::OutOfMemory
 }
 
-// Sends the metric of the words, or those of the input if there are no words. Returns the exit status.
+// Sends the line of the words, or those of the input if there are no words. Returns the exit status.
 fn send(rt: &HostRuntime, arguments: &Arguments<'_>) -> ExitCode {
     let options = &arguments.options;
     let tags = match Environment::read_tags(rt) {
@@ -210,7 +211,7 @@ fn send_to_path(
     }
 }
 
-// Sends the metric of the words, or those of the input if there are no words, with this writer of packets, which takes
+// Sends the line of the words, or those of the input if there are no words, with this writer of packets, which takes
 // packets up to this length. Returns the exit status.
 fn send_with<T: PacketWriter>(
     rt: &HostRuntime,
@@ -262,8 +263,7 @@ fn send_with<T: PacketWriter>(
     ExitCode::from(sending.run_summed(&mut sums, &mut input, outlet))
 }
 
-// Sends the metric of the words, if the option `--sample` lets it pass, and otherwise only reads the words. Returns the
-// exit status.
+// Sends the line of the words, or only reads them if the option `--sample` leaves it out. Returns the exit status.
 fn send_words<T: PacketWriter>(
     rt: &HostRuntime,
     arguments: &Arguments<'_>,
@@ -272,13 +272,14 @@ fn send_words<T: PacketWriter>(
     outlet: Outlet<'_>,
 ) -> ExitCode {
     let (alloc, mut errors) = (rt.alloc(), rt.stderr());
-    let words = arguments.words.as_slice();
+    let (words, fields) = (arguments.words.as_slice(), &arguments.options.fields);
     let mut sampler = match asked_sampler(rt, &arguments.options) {
         Ok(sampler) => sampler,
         Err(why) => return exit_without_sample(rt, why),
     };
     if sampler.chooses() {
-        return ExitCode::from(run_words(&alloc, defaults, lines, words, outlet, &mut errors));
+        let status = run_words(&alloc, defaults, fields, lines, words, outlet, &mut errors);
+        return ExitCode::from(status);
     }
     let Ok(nowhere) = PacketPrinter::new(alloc, Vec::new(alloc)) else {
         return exit_with_error(rt, 3, OUT_OF_MEMORY);
@@ -286,5 +287,14 @@ fn send_words<T: PacketWriter>(
     let Ok(mut lines) = LineBuffer::new(alloc, nowhere, arguments.options.capacity) else {
         return exit_with_error(rt, 3, OUT_OF_MEMORY);
     };
-    ExitCode::from(run_words(&alloc, defaults, &mut lines, words, outlet, &mut errors))
+    let status = run_words(
+        &alloc,
+        defaults,
+        fields,
+        &mut lines,
+        words,
+        outlet,
+        &mut errors,
+    );
+    ExitCode::from(status)
 }

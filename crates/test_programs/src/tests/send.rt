@@ -4,7 +4,7 @@ use super::stream::{OUTLET, Waiting};
 use cadence_flow::io::{Answer, LineBuffer, PacketLog, PacketWriter};
 use cadence_send::{LossBoard, Options, PacketPrinter, Sending, Setting, run_words};
 use cadence_text::line::OwnedTag;
-use cadence_words::Defaults;
+use cadence_words::{Defaults, Fields};
 use std::alloc::{Allocator, Global};
 use std::io::{Read, Write};
 use std::test::Fail;
@@ -31,6 +31,25 @@ const WORDS: &[&str] = &["c", "a", "1", "k:v"];
 
 const LINE: &[u8] = b"p.a:1|c|#x,k:v|c:id\n";
 
+// The words of an event and of a service check, the fields that they have, and what is sent for them. The event is
+// longer than a packet.
+const EVENT: &[&str] = &["event", "t", "x\n", "k:v"];
+
+const EVENT_LINE: &[u8] = b"_e{1,3}:t|x\\n|h:h|#x,k:v|c:id";
+
+const CHECK: &[&str] = &["check", "w", "warning", "k:v"];
+
+const CHECK_LINE: &[u8] = b"_sc|w|1|h:h|#x,k:v|c:id\n";
+
+const FIELDS: Fields<'static> = Fields {
+    host: Some("h"),
+    key: None,
+    priority: None,
+    source: None,
+    alert: None,
+    message: None,
+};
+
 const SHOWN: &[u8] = b"packet 20 p.a:1|c|#x,k:v|c:id\\n\n";
 
 // No words, so that the input is read.
@@ -51,6 +70,14 @@ const UNREAD: &[u8] = b"statsd_send: input: cannot read: ";
 const REFUSED: &[u8] = b"statsd_send: cannot send to host:1 (--to): packet refused\n";
 
 const NO_VALUE: &[u8] = b"statsd_send: VALUE of c is a whole number, as in `c visits 1`\n";
+
+const NO_EVENT: &[u8] =
+    b"statsd_send: wants event TITLE TEXT [TAG ..], as in `event Deploy 'version 2.1'`\n";
+
+const NO_CHECK: &[u8] = b"statsd_send: wants check NAME STATUS [TAG ..], as in `check web ok`\n";
+
+const NO_STATUS: &[u8] =
+    b"statsd_send: STATUS is ok, warning, critical, unknown or 0 to 3, as in `check web critical`\n";
 
 const NO_METRICS: &[u8] =
     b"statsd_send: line 2: wants KIND NAME VALUE [TAG ..], as in `c visits 1 page:home`
@@ -109,7 +136,9 @@ fn drive<A: Allocator + Clone, T: PacketWriter, I: Read, E: Write>(
     let status = if words.is_empty() {
         run_lines(&alloc, &defaults, &mut lines, input, errors)
     } else {
-        run_words(&alloc, &defaults, &mut lines, words, OUTLET, errors)
+        run_words(
+            &alloc, &defaults, &FIELDS, &mut lines, words, OUTLET, errors,
+        )
     };
     let (writer, held) = lines.into_parts();
     Some((status, held.is_empty(), writer))
@@ -225,6 +254,12 @@ const ROWS: &[Row] = &[
     (WORDS, b"", &[Answer::Refuse], 1, b"", REFUSED),
     (&["c", "a", "k:v"], b"", &[], 2, b"", NO_VALUE),
     (NONE, b"c a 1 k:v\nc\nx y 1\n", &[], 2, LINE, NO_METRICS),
+    (EVENT, b"", &[], 0, EVENT_LINE, b""),
+    (EVENT, b"", &[Answer::Refuse], 1, b"", REFUSED),
+    (CHECK, b"", &SHORT, 0, CHECK_LINE, b""),
+    (&["event", "t"], b"", &[], 2, b"", NO_EVENT),
+    (&["check", "w"], b"", &[], 2, b"", NO_CHECK),
+    (&["check", "w", "4"], b"", &[], 2, b"", NO_STATUS),
 ];
 
 // Returns whether the run of a row has the right status and sends the right lines, although standard error fails after
@@ -268,7 +303,8 @@ fn sends_lines_with(
         _ => return Err(Fail::new("another end")),
     };
     let is_start = (0..4).any(|count| first_lines(count) == sent.as_slice());
-    if !is_start || errors.as_slice() != message {
+    let is_known = is_start || sent.as_slice() == lines;
+    if !is_known || errors.as_slice() != message {
         return Err(Fail::new("another text"));
     }
     Ok(left.left() <= MOST_REQUESTS)
@@ -291,6 +327,8 @@ fn requests_may_be_refused(
 fn each_request_may_be_refused(rt: HostRuntime) -> Result<(), Fail> {
     assert!(rt; requests_may_be_refused(rt.alloc(), NONE, LINES, 8)?);
     assert!(rt; requests_may_be_refused(rt.alloc(), WORDS, LINE, 2)?);
+    assert!(rt; requests_may_be_refused(rt.alloc(), EVENT, EVENT_LINE, 2)?);
+    assert!(rt; requests_may_be_refused(rt.alloc(), CHECK, CHECK_LINE, 2)?);
     Ok(())
 }
 
