@@ -15,8 +15,9 @@ use cadence_aggregate::{Aggregator, Fault, Line, LineSink};
 use cadence_stage::GhostList;
 use std::alloc::{AllocError, Global};
 
-/// Adds up lines. Each call is given the sink to which it sends what it can't hold. The accepted lines are recorded for
-/// proofs only: what the sink took, with what is held, is a summary of them (`HasSummary`), and each call keeps it so.
+/// Adds up lines. A caller gives the sink below to each call, and the call sends to it what can't be held. There is a
+/// record of the accepted lines, which exists in proofs only. What the sink took and what is held are together a summary
+/// of these lines (`HasSummary`), before each call and after it.
 #[derive(Drop)]
 pub struct Sums {
     alloc: Global,

@@ -115,8 +115,8 @@ abbrev pub IsLineOfCheck : CSettings → CCheck → List ℕ → Type 0
 IsLineOfCheck c check line =
     (e : ServiceCheck) × IsCheckOf check e × ((s : Settings) → AreTextsOf c s → line ≡ check_line (check_with s.tags s.container e))
 
--- This is the first text of the event because of which it has no line, or there is none. The texts of the settings are not
--- among those that are tested.
+-- If a text is given, it is the first one that can't stand in the line of the event. If none is given, all of them can. The
+-- texts of the settings are not tested.
 abbrev pub IsRefusalOfEvent : CEvent → Option Unfit → Type 0
 IsRefusalOfEvent event why = (e : Event) × IsEventOf event e × (event_refusal e ≡ why)
 
@@ -124,12 +124,12 @@ IsRefusalOfEvent event why = (e : Event) × IsEventOf event e × (event_refusal 
 abbrev pub IsRefusalOfCheck : CCheck → Option Unfit → Type 0
 IsRefusalOfCheck check why = (e : ServiceCheck) × IsCheckOf check e × (check_refusal e ≡ why)
 
--- The status names the text because of which there is no line.
+-- The status names the first text that can't stand in the line.
 abbrev pub IsUnfit : ℕ → (Option Unfit → Type 0) → Type 0
 IsUnfit s IsRefusal = (why : Unfit) × (s ≡ code_of_unfit why) × IsRefusal (Some why)
 
--- What the status of a call that makes a line says of its texts. `IsRefusal` says because of which text there is no line,
--- or that there is none, `texts` that all texts are UTF-8, and `wrong` that a number is invalid.
+-- What the status of a call that makes a line says of its texts. `IsRefusal` says which text is the first that can't stand
+-- in the line, if there is such a text. `texts` says that all texts are UTF-8, and `wrong` that a number is invalid.
 pub record TestsEvent (s : ℕ) (IsRefusal : Option Unfit → Type 0) (texts wrong : Type 0) : Type 0 where
   pub allowed : (s ≡ CADENCE_OK) ⊎ (s ≡ CADENCE_FULL) → IsRefusal None
   pub text : s ≡ CADENCE_NOT_UTF8 → texts → ⊥

@@ -8,8 +8,8 @@ use Rattle.cadence_aggregating.specs.Summed.{AddsQuietly, accepted_in, gone_in, 
 use Rattle.cadence_aggregating.specs.declared.summed.SummedLines.{SummedLines}
 use Rattle.cadence_c.specs.ClientState.{ClientState, KeepsLine, LacksRoomForLine}
 
--- The sums are new: no line was accepted. They hold at most so many contexts of each kind, and at least one, and lines of
--- at most so many bytes, and pack values only if that is asked.
+-- The sums are new: they accepted no line. They hold this many contexts of each kind, or one if the number is 0, and lines
+-- of at most this many bytes. They pack values if and only if `packed` is true.
 pub record IsNewSums (contexts longest : ℕ) (packed : Bool) (a : SummedLines) : Type 0 where
   pub contexts_are : non_zero_usize_get (limits_in a).most_contexts ≡ at_least_one contexts
   pub longest_is : (limits_in a).most_bytes ≡ longest

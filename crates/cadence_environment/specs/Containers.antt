@@ -21,7 +21,8 @@ has_shape (sign ∷ signs) (byte ∷ bytes) =
     if sign == 43 then list_all is_ascii_digit (byte ∷ bytes) else (fits sign byte && has_shape signs bytes)
 
 -- whether a text is the id of a container: 64 digits as of Docker and containerd, 32 digits and a number as of ECS, or
--- the groups of a UUID. An id of Garden, whose last group has 4 digits, stands only at the end of a line.
+-- the groups of a UUID. Garden has ids like a UUID, but with 4 digits in the last group: they count only at the end of a
+-- line.
 abbrev pub is_id : List ℕ → Bool → Bool
 is_id text is_last =
     has_shape (codes "hhhhhhhhhhhhhhhhhhhhhhhhhhhhhhhhhhhhhhhhhhhhhhhhhhhhhhhhhhhhhhhh") text

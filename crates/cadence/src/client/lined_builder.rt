@@ -111,14 +111,13 @@ impl<'m, 'c, L: Lined, C: CallBackend> LinedBuilder<'m, 'c, L, C> {
         }
     }
 
-    /// Sends the line, in which the client's default tags come before the builder's own, and the client's default
-    /// container stands if the builder has none.
+    /// Sends the line. The client's default tags come before the builder's own tags. If the builder has no container, the
+    /// line has the client's default container.
     ///
     /// # Errors
-    /// An error of kind `InvalidInput`, which names a text of the call that can't stand in the line, if there is one: the
-    /// first one in the order of the line (`refusal` of `Event` and of `ServiceCheck` in `cadence_events`). The client's
-    /// defaults are not tested. Otherwise `OutOfMemory`. Nothing is sent then. Any other error is the sink's, as
-    /// `MetricError::Sink`.
+    /// If texts of the call can't stand in the line, an error of kind `InvalidInput` that names the first of them
+    /// (`refusal` of `Event` and of `ServiceCheck` in `cadence_events`). The client's defaults are not tested. If memory
+    /// runs out, `OutOfMemory`. Nothing is sent in both cases. Any other error is the sink's, as `MetricError::Sink`.
     pub fn try_send(self) -> MetricResult<()>
         ensures { SendsBuilt C.settings C.line_may_get L.refused L.spelled (built self.entry)
             result }
