@@ -5,3 +5,4 @@ pub mod headline
 pub mod history
 pub mod packets
 pub mod plans
+pub mod summed

@@ -1,5 +1,6 @@
 //! Laws that follow from the definitions. Each function does nothing when it runs: its contract is a law, and a proof
 //! that needs the law cites the call.
+ghost use Rattle.cadence_schedule.specs.InTurn.{AllAreSent};
 ghost use Rattle.cadence_schedule.specs.Laws.{LeastPackets, PacketsReadOneWay};
 
 use cadence_text::laws::packet_reads_one_way;
@@ -16,3 +17,9 @@ pub fn packets_read_one_way()
 {
     packet_reads_one_way();
 }
+
+/// States that flushes starve no context: if an aggregator holds `n` contexts, and each of the next `n` flushes sends at
+/// least one line, then all these contexts were sent, in their order.
+pub fn flushes_send_all()
+    ensures { AllAreSent }
+{}

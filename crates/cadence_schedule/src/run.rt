@@ -22,9 +22,9 @@ use cadence_settings::{ClientSettings, strict_calls_are_free};
 use cadence_text::laws::no_line_is_empty;
 use std::alloc::Allocator;
 
-/// Makes what a run of `steps` steps needs: a list with room for the replies, a list with room for the cut, and the queue.
-/// The only error is that memory ran out.
-pub fn lists_of_run<A: Allocator + Clone>(
+// Makes what a run of `steps` steps needs: a list with room for the replies, a list with room for the cut, and the queue.
+// The only error is that memory ran out.
+pub(crate) fn lists_of_run<A: Allocator + Clone>(
     alloc: &A,
     steps: usize,
     queue: Option<usize>,

@@ -3,12 +3,11 @@ ghost use Rattle.std.specs.Prelude.{◌≤◌};
 
 use crate::print::{Shown, report_text};
 use crate::script::{Script, ScriptError, read_script};
-use cadence_aggregated::run_schedule_aggregated;
 use cadence_aggregating::Limits;
 use cadence_cli::{ReportError, print_report, read_all};
 use cadence_errors::{ErrorKind, MetricError};
 use cadence_flow::io::PacketLog;
-use cadence_schedule::run_schedule_with;
+use cadence_schedule::{run_schedule_aggregated, run_schedule_with};
 use cadence_settings::ClientSettings;
 use std::alloc::{AllocError, Allocator, Global};
 use std::io::{Read, Write};

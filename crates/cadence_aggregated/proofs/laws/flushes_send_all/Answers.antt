@@ -1,5 +1,0 @@
-use Rattle.cadence_aggregated.proofs.InTurn.{all_are_sent}
-use Rattle.cadence_aggregated.proofs.laws.flushes_send_all.Goals as goal
-
-pub returns : goal.returns
-returns c = all_are_sent
