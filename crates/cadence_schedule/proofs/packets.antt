@@ -2,5 +2,7 @@
 pub mod CutLengths
 pub mod CutSoFar
 pub mod ListEnds
+pub mod PackedLines
 pub mod PackerSteps
 pub mod PacketMetrics
+pub mod Refusing

@@ -1,10 +1,8 @@
--- The run with an aggregator: what the aggregator gives to the packer, and what is so after any turns.
+-- The run with sums before its packer: what the calls of the sums do, and what a whole run shows.
 pub mod Calling
-pub mod EachTurn
+pub mod EachCall
 pub mod Ended
+pub mod Erring
 pub mod Filled
 pub mod Giving
 pub mod InTurn
-pub mod PackedLines
-pub mod Queued
-pub mod Refusing

@@ -1,5 +1,5 @@
 -- What each step of a schedule asked of the packer behind an aggregator.
-use Rattle.std.specs.Prelude.{◌≡◌, ◌⊎◌, List, [], ◌∷◌, ◌++◌, Ok, Err, Option, Some, None}
+use Rattle.std.specs.Prelude.{◌≡◌, ◌⊎◌, ℕ, List, [], ◌∷◌, ◌++◌, Ok, Err, Option, Result, Some, None}
 use Rattle.cadence_errors.specs.declared.SinkError.{SinkError}
 use Rattle.cadence_errors.specs.declared.SinkError.TheVariants.{OutOfMemory}
 use Rattle.cadence_schedule.specs.RunHistory.{Turn}
@@ -23,14 +23,27 @@ WritesThen asked last = (lines : List Sending) × WritesLines lines None × (ask
 abbrev pub FailsBy : List Sending → SinkError → Type 0
 FailsBy asked e = WritesLines asked (Some e) ⊎ (WritesLines asked None × (e ≡ OutOfMemory))
 
+-- A line made the packer write lines. If it failed, the last line was refused with its error, or memory ran out.
+abbrev pub AsksLine : Result ℕ SinkError → List Sending → Type 0
+AsksLine (Ok n) asked = WritesLines asked None
+AsksLine (Err e) asked = FailsBy asked e
+
+-- A flush made the packer write lines, and then flushed it. If it failed, the last thing that it asked was refused with
+-- its error, or memory ran out.
+abbrev pub AsksFlush : Result (Unit {0}) SinkError → List Sending → Type 0
+AsksFlush (Ok done) asked = WritesThen asked (flushed (Ok done))
+AsksFlush (Err e) asked = FailsBy asked e ⊎ WritesThen asked (flushed (Err e))
+
+-- what a call of the sums before the packer asked of the packer
+abbrev pub AsksCall : Sending → List Sending → Type 0
+AsksCall (wrote line result) asked = AsksLine result asked
+AsksCall (flushed result) asked = AsksFlush result asked
+
 module _ {A : Type 0} where
-  -- A hand wrote lines. A flush wrote lines, and then flushed the packer. If one failed, the last thing that it asked was
-  -- refused with its error, or memory ran out. Other steps asked nothing.
+  -- A hand gave a line, and a flush was a flush. Other steps asked nothing.
   abbrev pub Asks : Turn A → List Sending → Type 0
-  Asks (step.Hand, reply.Handed (Ok n)) asked = WritesLines asked None
-  Asks (step.Hand, reply.Handed (Err e)) asked = FailsBy asked e
-  Asks (step.Flush, reply.Flushed (Ok done)) asked = WritesThen asked (flushed (Ok done))
-  Asks (step.Flush, reply.Flushed (Err e)) asked = FailsBy asked e ⊎ WritesThen asked (flushed (Err e))
+  Asks (step.Hand, reply.Handed result) asked = AsksLine result asked
+  Asks (step.Flush, reply.Flushed result) asked = AsksFlush result asked
   Asks turn asked = asked ≡ []
 
   -- The steps, each with its reply, asked all of this, in order.

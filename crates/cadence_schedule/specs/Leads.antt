@@ -5,8 +5,8 @@ use Rattle.cadence_aggregating.specs.Notes.{line_of_note, sample_of_note}
 use Rattle.cadence_errors.specs.declared.SinkError.{SinkError}
 use Rattle.cadence_flow.specs.Writer.{PacketHistory, WriterKind}
 use Rattle.cadence_schedule.specs.Asked.{WritesLines}
-use Rattle.cadence_schedule.specs.PackedRuns.{KeepsKindAndFormat, AllMovePacker, packed_state}
-use Rattle.cadence_schedule.specs.Sendings.{Sending, counts_of_kept, texts_in}
+use Rattle.cadence_schedule.specs.PackedRuns.{Packs, view_of}
+use Rattle.cadence_schedule.specs.Sendings.{Sending, AllLead, counts_of_kept, texts_in}
 use Rattle.cadence_schedule.specs.declared.packer_sink.PackerSink.{PackerSink}
 
 -- how many lines a sink refused, if this is its error of a refused line
@@ -32,9 +32,7 @@ module _ {P A : Type 0} (kind : P → WriterKind) (history : P → PacketHistory
   -- The packer was asked this, in order, and the sink took the lines of it that the packer kept.
   pub record SinkPacks (old new : PackerSink P A) (asked : List Sending) : Type 0 where
     pub lines : lines_by new ≡ lines_by old ++ texts_in (counts_of_kept asked)
-    pub keeps : KeepsKindAndFormat kind old.packing new.packing
-    pub sends : AllMovePacker (kind old.packing.packer.writer) old.packing.packer.format (packed_state history old.packing) asked
-        (packed_state history new.packing)
+    pub sends : AllLead (Packs kind history) (view_of old.packing) asked (view_of new.packing)
 
   -- Lines that the sink was given lead from one state of it to the other.
   pub record LeadsSink (old new : PackerSink P A) : Type 0 where

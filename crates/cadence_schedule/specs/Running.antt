@@ -1,53 +1,46 @@
--- For proofs: the state of a run between two steps, seen as lists and numbers, and what one step does to it. Only private
+-- For proofs: the state of a run between two steps, seen as lists and numbers, and what its steps do to it. Only private
 -- functions have contracts in these words.
-use Rattle.std.specs.Prelude.{◌≡◌, ℕ, ◌+◌, ◌<◌, ◌≤◌, ◌^◌, List, [], Option, None, Vec, map, string_bytes, vec_len, vec_capacity}
+use Rattle.std.specs.Prelude.{◌≡◌, ℕ, List, Option, map, string_bytes}
 use Rattle.std.specs.Option.{option_map}
-use Rattle.cadence_flow.specs.Packer.{new_packer}
-use Rattle.cadence_queue.specs.Queue.{new_queue}
-use Rattle.cadence_flow.specs.Writer.{PacketHistory, WriterKind}
 use Rattle.cadence_queue.specs.declared.policy.QueuePolicy.{QueuePolicy}
 use Rattle.cadence_settings.specs.declared.call.Call.{Call}
 use Rattle.cadence_schedule.specs.declared.running.Running.{Running}
-use Rattle.cadence_schedule.specs.declared.steps.Reply.{Reply}
 use Rattle.cadence_schedule.specs.RunHistory.{Turn}
-use Rattle.cadence_schedule.specs.Moves.{RunState, Moves}
+use Rattle.cadence_schedule.specs.Moves.{QueueState, Moves, Goes, at_start, given_in}
+use Rattle.cadence_schedule.specs.Sendings.{Sending, AllLead}
 
--- the state of a run
-abbrev pub run_state : {P A : Type 0} → (P → PacketHistory) → Running P A → RunState
-run_state history_of run = record {
-  waiting = map string_bytes run.queue.waiting;
-  stopped = run.queue.stopped;
-  submitted = run.queue.submitted;
-  drained = run.queue.drained;
-  dropped = run.queue.dropped;
-  in_hand = option_map string_bytes run.in_hand;
-  cut = run.cut.items;
-  history = history_of run.packer.writer;
-  held = run.packer.held;
-}
+module _ {S A : Type 0} where
+  -- the line in hand
+  abbrev pub hand_of : Running S A → Option (List ℕ)
+  hand_of run = option_map string_bytes run.in_hand
 
--- The run is before its first step: its queue is new, its hand is empty, its packer holds nothing, and there is room
--- for the replies and the cut of all its steps.
-pub record IsAtStart {P A : Type 0} (capacity : ℕ) (ending : List ℕ) (queue : Option ℕ) (policy : QueuePolicy) (steps : ℕ) (writer : P)
-    (run : Running P A) (replies : Vec Reply A) : Type 0 where
-  pub queue_is : run.queue ≡ new_queue queue policy
-  pub hand_is : run.in_hand ≡ None
-  pub packer_is : run.packer ≡ new_packer writer capacity ending
-  pub cut_is : run.cut.items ≡ []
-  pub cut_room : steps ≤ vec_capacity run.cut
-  pub replies_are : replies.items ≡ []
-  pub replies_room : steps ≤ vec_capacity replies
-  pub few : steps < 2 ^ 64
+  -- the state of the queue and the hand
+  abbrev pub queue_state : Running S A → QueueState
+  queue_state run = record {
+    waiting = map string_bytes run.queue.waiting;
+    stopped = run.queue.stopped;
+    submitted = run.queue.submitted;
+    drained = run.queue.drained;
+    dropped = run.queue.dropped;
+    in_hand = hand_of run;
+  }
 
--- A step with its reply leads from the old run to the new one. It keeps the writer's kind, the packer's format, and
--- the queue's capacity and policy, and it adds at most one number to the cut.
-pub record MakesTurn {P A : Type 0} (kind : P → WriterKind) (history : P → PacketHistory) (line_of : Call A → Option (List ℕ))
-    (old : Running P A) (turn : Turn A) (new : Running P A) : Type 0 where
-  pub moves : Moves line_of (kind old.packer.writer) old.packer.format old.queue.capacity old.queue.policy (run_state history old) turn
-      (run_state history new)
-  pub same_kind : kind new.packer.writer ≡ kind old.packer.writer
-  pub same_format : new.packer.format ≡ old.packer.format
-  pub same_queue : new.queue.capacity ≡ old.queue.capacity
-  pub same_policy : new.queue.policy ≡ old.queue.policy
-  pub cut_length : vec_len new.cut ≤ vec_len old.cut + 1
-  pub cut_room : vec_capacity old.cut ≤ vec_capacity new.cut
+  -- what this turn gives to what takes the lines that are handed on
+  abbrev pub given_by : Running S A → Turn A → List Sending
+  given_by run turn = given_in turn (hand_of run)
+
+  -- What a step with its reply does to the queue and the hand. The queue keeps its capacity and its policy.
+  pub record MovesQueue (line_of : Call A → Option (List ℕ)) (old : Running S A) (turn : Turn A) (new : Running S A) : Type 0 where
+    pub moves : Moves line_of old.queue.capacity old.queue.policy (queue_state old) turn (queue_state new)
+    pub same_queue : new.queue.capacity ≡ old.queue.capacity
+    pub same_policy : new.queue.policy ≡ old.queue.policy
+
+  -- These turns, from a new queue and an empty hand on, led to this run, and what they gave led the recipient to its last
+  -- state, if this is what one sending does.
+  pub record Runs (leads : S → Sending → S → Type 0) (line_of : Call A → Option (List ℕ)) (queue : Option ℕ) (policy : QueuePolicy) (first : S)
+      (run : Running S A) (turns : List (Turn A)) : Type 0 where
+    pub given : List Sending
+    pub goes : Goes line_of queue policy at_start turns given (queue_state run)
+    pub led : AllLead leads first given run.recipient
+    pub same_queue : run.queue.capacity ≡ queue
+    pub same_policy : run.queue.policy ≡ policy

@@ -1,5 +1,5 @@
 -- What a packer was given, and what it answered.
-use Rattle.std.specs.Prelude.{ℕ, ◌+◌, List, [], ◌∷◌, Result, Ok, Err, map}
+use Rattle.std.specs.Prelude.{◌≡◌, ℕ, ◌+◌, List, [], ◌∷◌, Result, Ok, Err, map}
 use Rattle.cadence_errors.specs.declared.SinkError.{SinkError}
 
 -- A line was given to the packer, or the packer was flushed, with this answer.
@@ -40,3 +40,8 @@ errors_of (wrote line (Ok n) ∷ xs) = errors_of xs
 errors_of (wrote line (Err e) ∷ xs) = e ∷ errors_of xs
 errors_of (flushed (Ok done) ∷ xs) = errors_of xs
 errors_of (flushed (Err e) ∷ xs) = e ∷ errors_of xs
+
+-- What was given, in order, leads from the old state to the new one, if this is what one sending does.
+abbrev pub AllLead : {S : Type 0} → (S → Sending → S → Type 0) → S → List Sending → S → Type 0
+AllLead leads old [] new = new ≡ old
+AllLead {S} leads old (sending ∷ xs) new = (mid : S) × leads old sending mid × AllLead leads mid xs new

@@ -4,8 +4,9 @@
 //! - `steps`: the steps of a schedule, and the replies to them
 //! - `run`: the run of a schedule, whose contract is the headline
 //! - `aggregated`: the run with an aggregator between the worker's hand and the packer
+//! - `make_steps`: how the steps are made, one after the other
 //! - `running`: the state of a run between two steps, and what each step does to it
-//! - `sums_running`: the same with an aggregator
+//! - `recipient`: what takes the lines that the worker hands on: a packer, or sums before it
 //! - `packing`: the packer, with the numbers of lines in its packets
 //! - `packer_sink`: the packer, as the sink to which the aggregator sends lines
 //! - `packed_sums`: lines that are added up before the packer
@@ -19,15 +20,16 @@ mod aggregated;
 mod aggregated_report;
 mod laws;
 mod listed;
+mod make_steps;
 mod packed_sums;
 mod packer_sink;
 mod packing;
 mod plan;
+mod recipient;
 mod reports;
 mod run;
 mod running;
 mod steps;
-mod sums_running;
 
 pub use aggregated::run_schedule_aggregated;
 pub use aggregated_report::AggregatedReport;

@@ -3,6 +3,7 @@ ghost use Rattle.std.specs.Prelude.{◌≡◌, []};
 
 use crate::packer_sink::PackerSink;
 use crate::packing::Packing;
+use crate::recipient::Recipient;
 use cadence_aggregate::Aggregator;
 use cadence_aggregating::Sums;
 use cadence_errors::SinkError;
@@ -17,11 +18,6 @@ pub(crate) struct PackedSums<P: PacketWriter, A: Allocator> {
 }
 
 impl<P: PacketWriter, A: Allocator> PackedSums<P, A> {
-    ghost use Rattle.std.specs.Prelude.{IfOk, Some, length};
-    ghost use Rattle.cadence_schedule.specs.declared.steps.Reply.TheVariants as reply;
-    ghost use Rattle.cadence_schedule.specs.declared.steps.Step.TheVariants as step;
-    ghost use Rattle.cadence_schedule.specs.Steps.{SumsTurn};
-
     // Puts sums before the packer.
     pub(crate) fn new(alloc: Global, lines: Sums, packing: Packing<P, A>) -> PackedSums<P, A>
         ensures lines { result.lines ≡ lines }
@@ -34,13 +30,28 @@ impl<P: PacketWriter, A: Allocator> PackedSums<P, A> {
         }
     }
 
+    // Returns the aggregator and the packer.
+    pub(crate) fn into_parts(self) -> (Aggregator, Packing<P, A>)
+        ensures aggregator { result.0 ≡ self.lines.aggregator }
+        ensures packing { result.1 ≡ self.sink.packing }
+    {
+        let PackedSums { lines, sink } = self;
+        (lines.into_aggregator(), sink.into_packing())
+    }
+}
+
+impl<P: PacketWriter, A: Allocator> Recipient for PackedSums<P, A> {
+    ghost use Rattle.std.specs.Prelude.{◌^◌};
+    ghost use Rattle.cadence_schedule.specs.SumsCalls.{SumsCall};
+
+    ghost leads = { λ old sending new. SumsCall P.kind P.history old sending new };
+
+    // More than the steps of any run, because each line that is counted makes room for itself.
+    ghost room = { λ _. 2 ^ 64 };
+
     // Adds a line and returns its length. After an error the line is not added, and each line that was held before is
     // sent or still held.
-    pub(crate) fn hand(&mut self, line: &str) -> Result<usize, SinkError>
-        ensures turn { SumsTurn P.kind P.history (Some line.now)
-            self.old (step.Hand, reply.Handed result) self.new }
-        ensures length { IfOk result (λ n. n ≡ length line.now) }
-    {
+    fn hand(&mut self, line: &str) -> Result<usize, SinkError> {
         let _ = self.sink.take_refused();
         match self.lines.add(&mut self.sink, line) {
             Ok(()) => Ok(line.len()),
@@ -50,23 +61,11 @@ impl<P: PacketWriter, A: Allocator> PackedSums<P, A> {
 
     // Sends what is held to the packer, and then what the packer holds. After an error what was not sent is still
     // held.
-    pub(crate) fn flush(&mut self) -> Result<(), SinkError>
-        ensures { (hand : _) → SumsTurn P.kind P.history hand
-            self.old (step.Flush, reply.Flushed result) self.new }
-    {
+    fn flush(&mut self) -> Result<(), SinkError> {
         let _ = self.sink.take_refused();
         match self.lines.flush(&mut self.sink) {
             Ok(()) => self.sink.packing.flush(),
             Err(fault) => Err(self.sink.error_of(fault)),
         }
-    }
-
-    // Returns the aggregator and the packer.
-    pub(crate) fn into_parts(self) -> (Aggregator, Packing<P, A>)
-        ensures aggregator { result.0 ≡ self.lines.aggregator }
-        ensures packing { result.1 ≡ self.sink.packing }
-    {
-        let PackedSums { lines, sink } = self;
-        (lines.into_aggregator(), sink.into_packing())
     }
 }

@@ -1,5 +1,6 @@
 //! The report of a run: its replies, its packets, and what is left in the queue, in hand and in the packer.
 
+use super::packing::Packing;
 use super::running::Running;
 use super::steps::Reply;
 use cadence_flow::io::{CountingWriter, PacketWriter};
@@ -82,18 +83,21 @@ impl<W: PacketWriter, A: Allocator> Report<W, A> {
     ghost use Rattle.cadence_schedule.specs.Report.{outcome_of};
 
     // Makes the report of a run after its last step.
-    pub(crate) fn of(running: Running<CountingWriter<W>, A>, replies: Vec<Reply, A>) -> Report<W, A>
-        ensures outcome { outcome_of result ≡ outcome_after running replies }
-        ensures held { length (outcome_of result).held ≤ running.packer.format.capacity }
+    pub(crate) fn of(
+        running: Running<Packing<CountingWriter<W>, A>, A>,
+        replies: Vec<Reply, A>,
+    ) -> Report<W, A>
+        ensures outcome { outcome_of result ≡ outcome_after running running.recipient replies }
+        ensures held { length (outcome_of result).held ≤ running.recipient.packer.format.capacity }
         ensures bytes_sent { (outcome_of result).stats.bytes_sent < 2 ^ 64 }
         ensures packets_sent { (outcome_of result).stats.packets_sent < 2 ^ 64 }
     {
         let Running {
             queue,
             in_hand,
-            packer,
-            cut,
+            recipient,
         } = running;
+        let Packing { packer, cut } = recipient;
         let (counting, held) = packer.into_parts();
         let (writer, stats) = counting.into_parts();
         Report {

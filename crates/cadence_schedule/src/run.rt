@@ -1,106 +1,21 @@
 //! The run of a schedule. The contract of `run_schedule_with` is the headline of this project.
-ghost use Rattle.std.specs.Prelude.{◌≡◌, ◌+◌, ◌<◌, ◌≤◌, ◌^◌, [], All, length, vec_len, vec_capacity, IfOk, IfErr};
+ghost use Rattle.std.specs.Prelude.{◌≡◌, IfOk, IfErr};
 ghost use Rattle.std.specs.List.{zip};
-ghost use Rattle.cadence_queue.specs.Queue.{new_queue};
-ghost use Rattle.cadence_text.specs.Representable.{IsRepresentable};
-ghost use Rattle.cadence_settings.specs.CallData.{line_of_data, metric_of_data};
 ghost use Rattle.cadence_schedule.specs.Headline.{given_of, HasHeadline, IsAccounted};
-ghost use Rattle.cadence_schedule.specs.RunHistory.{accepted, dropped_count};
-ghost use Rattle.cadence_schedule.specs.Moves.{Runs};
+ghost use Rattle.cadence_schedule.specs.RunHistory.{dropped_count};
 ghost use Rattle.cadence_schedule.specs.Report.{outcome_of};
-ghost use Rattle.cadence_schedule.specs.Running.{IsAtStart, run_state};
 ghost use Rattle.cadence_queue.specs.declared.policy.QueuePolicy.TheVariants.{Refuse};
 
 use super::laws::{packets_read_one_way, tight_is_fewest};
+use super::make_steps::{lists_of_run, make_steps};
+use super::packing::Packing;
 use super::reports::Report;
-use super::running::Running;
-use super::steps::{Reply, Step};
-use cadence_errors::MetricResult;
-use cadence_flow::io::{CountingWriter, LineBuffer, PacketWriter};
-use cadence_queue::{QueueCore, QueuePolicy};
+use super::steps::Step;
+use cadence_flow::io::{CountingWriter, PacketWriter};
+use cadence_queue::QueuePolicy;
 use cadence_settings::{ClientSettings, strict_calls_are_free};
 use cadence_text::laws::no_line_is_empty;
 use std::alloc::Allocator;
-
-// Makes what a run of `steps` steps needs: a list with room for the replies, a list with room for the cut, and the queue.
-// The only error is that memory ran out.
-pub(crate) fn lists_of_run<A: Allocator + Clone>(
-    alloc: &A,
-    steps: usize,
-    queue: Option<usize>,
-    policy: QueuePolicy,
-) -> MetricResult<(Vec<Reply, A>, Vec<usize, A>, QueueCore<String<A>, A>)>
-    ensures replies { IfOk result (λ lists.
-        (lists.0.items ≡ []) × (steps ≤ vec_capacity lists.0)) }
-    ensures cut { IfOk result (λ lists. (lists.1.items ≡ []) × (steps ≤ vec_capacity lists.1)) }
-    ensures queue { IfOk result (λ lists. lists.2 ≡ new_queue queue policy) }
-    ensures few { IfOk result (λ lists. steps < 2 ^ 64) }
-{
-    let replies = Vec::with_capacity(alloc.clone()?, steps)?;
-    let cut = Vec::with_capacity(alloc.clone()?, steps)?;
-    let queue = QueueCore::with_policy(alloc.clone()?, queue, policy)?;
-    Ok((replies, cut, queue))
-}
-
-// Returns a run before its first step, with room for the replies and the cut of `steps` steps, or the writer if memory
-// runs out.
-fn start<P: PacketWriter, A: Allocator + Clone>(
-    alloc: &A,
-    capacity: usize,
-    ending: &str,
-    queue: Option<usize>,
-    policy: QueuePolicy,
-    steps: usize,
-    writer: P,
-) -> Result<(Running<P, A>, Vec<Reply, A>), P>
-    ensures begun { IfOk result (λ begun.
-        IsAtStart capacity ending.now queue policy steps writer begun.0 begun.1) }
-    ensures returned { IfErr result (λ back. back ≡ writer) }
-{
-    let Ok((replies, cut, queue)) = lists_of_run(alloc, steps, queue, policy) else {
-        return Err(writer);
-    };
-    let Ok(second) = alloc.clone() else {
-        return Err(writer);
-    };
-    let packer = LineBuffer::with_ending(second, writer, capacity, ending)?;
-    let running = Running {
-        queue,
-        in_hand: None,
-        packer,
-        cut,
-    };
-    Ok((running, replies))
-}
-
-// Makes the steps in their order and stores their replies.
-fn run_steps<P: PacketWriter, A: Allocator + Clone>(
-    settings: &ClientSettings<A>,
-    steps: &[Step<A>],
-    running: &mut Running<P, A>,
-    replies: &mut Vec<Reply, A>,
-)
-    requires cut { vec_len running.old.cut + length steps.now ≤ vec_capacity running.old.cut }
-    requires replies { (replies.old.items ≡ []) × (length steps.now ≤ vec_capacity replies.old) }
-    ensures runs { Runs (line_of_data settings.now) (P.kind running.old.packer.writer)
-        running.old.packer.format running.old.queue.capacity running.old.queue.policy
-        (run_state P.history running.old)
-        (zip steps.now replies.new.items) (run_state P.history running.new) }
-    ensures representable { All IsRepresentable (accepted (metric_of_data settings.now)
-        (zip steps.now replies.new.items)) }
-    ensures one_each { length replies.new.items ≡ length steps.now }
-    ensures same_kind { P.kind running.new.packer.writer ≡ P.kind running.old.packer.writer }
-    ensures same_format { running.new.packer.format ≡ running.old.packer.format }
-    ensures same_queue { running.new.queue.capacity ≡ running.old.queue.capacity }
-    ensures same_policy { running.new.queue.policy ≡ running.old.queue.policy }
-{
-    for step in steps {
-        let reply = running.step(settings, step);
-        let Ok(()) = replies.push(reply) else {
-            unreachable!()
-        };
-    }
-}
 
 /// Runs a schedule and returns its report.
 ///
@@ -166,18 +81,13 @@ pub fn run_schedule_with<W: PacketWriter, A: Allocator + Clone>(
     packets_read_one_way();
     strict_calls_are_free();
     let _ = settings.is_strict();
+    let Ok((replies, queue)) = lists_of_run(&alloc, steps.len(), queue, policy) else {
+        return Err(writer);
+    };
     let counting = CountingWriter::new(writer);
-    match start(
-        &alloc,
-        capacity,
-        ending,
-        queue,
-        policy,
-        steps.len(),
-        counting,
-    ) {
-        Ok((mut running, mut replies)) => {
-            run_steps(settings, steps, &mut running, &mut replies);
+    match Packing::new(&alloc, capacity, ending, steps.len(), counting) {
+        Ok(packing) => {
+            let (running, replies) = make_steps(settings, steps, queue, packing, replies);
             Ok(Report::of(running, replies))
         }
         Err(counting) => Err(counting.into_inner()),

@@ -1,30 +1,22 @@
 -- What a run shows at its end: its packets, its cut, its counts and its sums.
-use Rattle.std.proofs.Common.{◌≡◌, ◌≢◌, ℕ, zero-le, ◌+◌, ◌%◌, ◌^◌, ◌<◌, ◌≤◌, List, [], ◌∷◌, ◌++◌, Option, Some, None, Ok, Err, Bool, true}
+use Rattle.std.proofs.Common.{◌≡◌, ℕ, zero-le, ◌+◌, ◌%◌, ◌^◌, ◌<◌, ◌≤◌, List, [], ◌∷◌, ◌++◌, Option, Some, None, Ok, Bool, true}
 use Rattle.std.proofs.Common.{false, length, drop, refl, sym, ap, ◌∙◌, arith, subst, cond, map}
-use Rattle.std.specs.List.{concat, flat_map}
+use Rattle.std.specs.List.{concat}
 use Rattle.std.specs.Option.{option_to_list}
 use Rattle.std.proofs.lemmas.List.{append-nil, append_assoc, length-append, drop_at}
 use Rattle.std.proofs.lemmas.List.Concat.{flat_map-append}
 use Rattle.std.proofs.lemmas.List.Folds.{concat-append}
 use Rattle.std.proofs.lemmas.List.Sums.{sum_by-cons}
-use Rattle.cadence_flow.specs.Frame.{Format, size_of, frame, stream, held_packet, taken_stream}
+use Rattle.cadence_flow.specs.Frame.{Format, frame, stream, held_packet}
 use Rattle.cadence_flow.specs.Sums.{less, start_of, counted_kind, start_if, zero_sums}
 use Rattle.cadence_flow.specs.Writer.{PacketHistory, WriterKind, Extends}
-use Rattle.cadence_queue.specs.declared.policy.QueuePolicy.{QueuePolicy}
 use Rattle.cadence_flow.specs.declared.stats.SinkStats.{SinkStats}
 use Rattle.cadence_settings.specs.declared.call.Call.{Call}
 use Rattle.cadence_schedule.specs.declared.steps.Step.TheVariants as step
 use Rattle.cadence_schedule.specs.declared.steps.Reply.TheVariants as reply
 use Rattle.cadence_schedule.specs.Headline.{packets_between, AreSumsBetween}
-use Rattle.cadence_schedule.specs.RunHistory.{Turn, accepted, accepted_by_turn, taken_count, dropped_count, kept, kept_counts, error_count}
-use Rattle.cadence_schedule.specs.RunHistory.{is_error, marks}
-use Rattle.cadence_schedule.specs.RunHistory.{refusals, refusal_at, with_before}
-use Rattle.cadence_schedule.specs.Packets.{ArePacketsOf}
-use Rattle.cadence_schedule.specs.Plan.{groups_of, IsTight, NoGroupHasRoom}
-use Rattle.cadence_schedule.specs.Moves.{RunState}
+use Rattle.cadence_schedule.specs.RunHistory.{Turn, accepted, accepted_by_turn, error_count, is_error}
 use Rattle.cadence_schedule.proofs.packets.ListEnds.{joined}
-use Rattle.cadence_schedule.proofs.packets.CutLengths.{shown, shown_late}
-use Rattle.cadence_schedule.proofs.headline.EachTurn.{After}
 
 -- The packets and then the held text as a packet, joined, are the packets, joined, and then the held text.
 pub joined_packets : (packets : List (List ℕ)) (held : List ℕ) → concat (packets ++ held_packet held) ≡ concat packets ++ held
@@ -36,10 +28,6 @@ pub joined_groups : (format : Format) (groups : List (List (List ℕ))) → conc
 joined_groups format [] = refl
 joined_groups format (group ∷ groups) =
     ap (λ t. stream format group ++ t) (joined_groups format groups) ∙ sym (flat_map-append (frame format) group (joined groups))
-
-flat_map-map : {X Y Z : Type 0} (g : Y → List Z) (f : X → Y) (xs : List X) → flat_map g (map f xs) ≡ flat_map (λ x. g (f x)) xs
-flat_map-map g f [] = refl
-flat_map-map g f (x ∷ xs) = ap (λ l. g (f x) ++ l) (flat_map-map g f xs)
 
 -- If two equal texts have the same beginning, they have the same rest.
 pub goes_on : (xs ys zs : List ℕ) → xs ++ ys ≡ xs ++ zs → ys ≡ zs
@@ -57,31 +45,11 @@ pub none_counted : (new old n m : ℕ) → new ≡ old → new % 2 ^ 64 ≡ (old
 none_counted new old n m e f g k = omega arith
 
 module _ {A : Type 0} (line_of : Call A → Option (List ℕ)) where
-  none_here : (t : Turn A) (n : ℕ) → ◌≡◌ {A = ℕ} (cond (is_error t) 1 0) 0 → refusal_at line_of n t ≡ []
-  none_here (step.Hand, reply.Handed (Err e)) n h = absurd (omega arith)
-  none_here _ n h = refl
-
-  -- What no turn without an error adds, a history without an error doesn't have.
-  none_of : (f : List (Turn A) × Turn A → List ℕ) (h : List (Turn A)) → error_count h ≡ 0
-      → ((before : List (Turn A)) (t : Turn A) → ◌≡◌ {A = ℕ} (cond (is_error t) 1 0) 0 → f (before, t) ≡ []) → flat_map f (with_before h) ≡ []
-  none_of f [] e none = refl
-  none_of f (t ∷ h) e none =
-      let parts : error_count (t ∷ h) ≡ cond (is_error t) 1 0 + error_count h = sum_by-cons (λ u. cond (is_error u) 1 0) t h in
-      let here : f ([], t) ≡ [] = none [] t (omega arith) in
-      let later : flat_map (λ p. f (t ∷ p.0, p.1)) (with_before h) ≡ [] =
-      none_of (λ p. f (t ∷ p.0, p.1)) h (omega arith) (λ before u is. none (t ∷ before) u is) in
-      (λ i. here i ++ (flat_map-map f (λ p. (t ∷ p.0, p.1)) (with_before h) ∙ later) i)
-
-  -- If no hand and no flush returned an error, there is no place of a refused line.
-  no_refusals : (h : List (Turn A)) → error_count h ≡ 0 → refusals line_of h ≡ []
-  no_refusals h e = none_of (λ p. refusal_at line_of (length (kept line_of p.0)) p.1) h e
-      (λ before t is. none_here t (length (kept line_of before)) is)
-
   bit_le : (b : Bool) → cond b 1 0 ≤ 1
   bit_le true = omega arith
   bit_le false = omega arith
 
-  errors_le : (h : List (Turn A)) → error_count h ≤ length h
+  pub errors_le : (h : List (Turn A)) → error_count h ≤ length h
   errors_le [] = zero-le
   errors_le (t ∷ h) = omega (arith, sum_by-cons (λ u. cond (is_error u) 1 0) t h, bit_le (is_error t), errors_le h)
 
@@ -97,64 +65,6 @@ module _ {A : Type 0} (line_of : Call A → Option (List ℕ)) where
   pub accepted_le : (h : List (Turn A)) → length (accepted line_of h) ≤ length h
   accepted_le [] = zero-le
   accepted_le (t ∷ h) = omega (arith, length-append (accepted_by_turn line_of t) (accepted line_of h), accepted_one t, accepted_le h)
-
-  module _ (filled : (call : Call A) (line : List ℕ) → line_of call ≡ Some line → line ≢ []) (kind : WriterKind) (format : Format)
-      (queue : Option ℕ) (policy : QueuePolicy) (start : PacketHistory) (h : List (Turn A)) (s : RunState)
-      (a : After line_of filled kind format queue policy start h s) where
-    pub run_taken : kind.reports ≡ true → concat (packets_between start s.history) ++ s.held ≡ taken_stream format (kept_counts line_of h)
-    run_taken reports =
-        let b = a.text reports in
-        let (more, e) = b.extends in
-        let text : concat start.packets ++ (concat more ++ s.held) ≡ concat start.packets ++ taken_stream format (kept_counts line_of h) =
-        sym (append_assoc (concat start.packets) (concat more) s.held)
-        ∙ ap (λ t. t ++ s.held) (sym (concat-append start.packets more) ∙ ap concat (sym e)) ∙ b.text in
-        ap (λ p. concat p ++ s.held) (between_is start s.history more e)
-        ∙ goes_on (concat start.packets) (concat more ++ s.held) (taken_stream format (kept_counts line_of h)) text
-
-    pub run_stream : kind.reports ≡ true → kind.takes_whole ≡ true
-        → concat (packets_between start s.history) ++ s.held ≡ stream format (kept line_of h)
-    run_stream reports whole =
-        let b = a.cut reports whole in
-        ap (λ p. concat p ++ s.held) (between_is start s.history b.packets b.since)
-        ∙ sym (joined_packets b.packets s.held) ∙ ap concat b.cut.into ∙ joined_groups format b.groups ∙ ap (stream format) b.cut.all
-
-    pub run_cut : kind.reports ≡ true → kind.takes_whole ≡ true
-        → ArePacketsOf format (marks line_of h) (refusals line_of h) (kept line_of h) s.cut (packets_between start s.history) s.held
-    run_cut reports whole =
-        let b = a.cut reports whole in
-        subst (λ p. ArePacketsOf format (marks line_of h) (refusals line_of h) (kept line_of h) s.cut p s.held)
-        (sym (between_is start s.history b.packets b.since))
-        (subst (λ p. ArePacketsOf format (marks line_of h) (refusals line_of h) (kept line_of h) p b.packets s.held) (sym b.plan_is)
-        (shown format (marks line_of h) (refusals line_of h) (kept line_of h) b.groups b.packets s.held b.cut))
-
-    pub run_late : kind.reports ≡ true → kind.takes_whole ≡ true
-        → NoGroupHasRoom format.capacity (marks line_of h ++ refusals line_of h) (groups_of s.cut (map (size_of format) (kept line_of h)))
-    run_late reports whole =
-        let b = a.cut reports whole in
-        subst (λ p. NoGroupHasRoom format.capacity (marks line_of h ++ refusals line_of h) (groups_of p (map (size_of format) (kept line_of h))))
-        (sym b.plan_is)
-        (shown_late format (marks line_of h) (refusals line_of h) (kept line_of h) b.groups b.packets s.held b.cut)
-
-    pub run_tight : length h < 2 ^ 64 → kind.reports ≡ true → kind.takes_whole ≡ true → s.history.refusals ≡ start.refusals
-        → IsTight format.capacity (marks line_of h) (map (size_of format) (kept line_of h)) s.cut
-    run_tight short reports whole none =
-        let counted : s.history.refusals % 2 ^ 64 ≡ (start.refusals + error_count h) % 2 ^ 64 = a.refusals whole in
-        let no_errors : error_count h ≡ 0 =
-        none_counted s.history.refusals start.refusals (error_count h) (length h) none counted (errors_le h) short in
-        record {
-          admissible = (run_cut reports whole).admissible;
-          no_later = subst (λ e. NoGroupHasRoom format.capacity e (groups_of s.cut (map (size_of format) (kept line_of h))))
-              (ap (λ r. marks line_of h ++ r) (no_refusals h no_errors) ∙ append-nil (marks line_of h)) (run_late reports whole);
-        }
-
-    pub run_submitted : length h < 2 ^ 64 → s.submitted ≡ length (accepted line_of h)
-    run_submitted short = a.line.submitted_is ∙ short_mod (length (accepted line_of h)) (length h) (accepted_le h) short
-
-    pub run_drained : length h < 2 ^ 64 → s.drained ≡ taken_count h
-    run_drained short = a.line.drained_is ∙ short_mod (taken_count h) (length h) (omega (arith, a.line.within, accepted_le h)) short
-
-    pub run_dropped : length h < 2 ^ 64 → s.dropped ≡ dropped_count h
-    run_dropped short = a.line.dropped_is ∙ short_mod (dropped_count h) (length h) (omega (arith, a.line.within, accepted_le h)) short
 
 -- A sum that began at 0 is what was added to it, modulo 2 to the 64.
 sum_between : (s n0 n1 more : ℕ) → n1 ≡ n0 + more → s < 2 ^ 64 → less s n1 ≡ less 0 n0 → s ≡ more % 2 ^ 64

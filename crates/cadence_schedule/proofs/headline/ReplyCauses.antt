@@ -14,7 +14,7 @@ use Rattle.cadence_schedule.specs.declared.steps.Step.TheVariants as step
 use Rattle.cadence_schedule.specs.declared.steps.Reply.{Reply}
 use Rattle.cadence_schedule.specs.RunHistory.{Turn, left_count, is_stopped, accepted, in_hand}
 use Rattle.cadence_schedule.specs.Replies.{CallReplies, TakeReplies, HandReplies, MayFail, MayReply}
-use Rattle.cadence_schedule.specs.Moves.{RunState}
+use Rattle.cadence_schedule.specs.Moves.{QueueState}
 use Rattle.cadence_schedule.proofs.history.QueueAndHand.{QueueAfter}
 
 -- An error of the packer has a cause that its writer allows.
@@ -30,7 +30,7 @@ refused_once kind old new before offered e whole (inr nothing) = absurd (let bad
 
 module _ {A : Type 0} (line_of : Call A → Option (List ℕ)) (kind : WriterKind) (format : Format) (queue : Option ℕ) (policy : QueuePolicy) where
   -- The reply to a call that the state calls for is one that the history allows.
-  pub call_reply : (h : List (Turn A)) (s : RunState) → QueueAfter line_of queue h s → (call : Call A) (answer : Reply)
+  pub call_reply : (h : List (Turn A)) (s : QueueState) → QueueAfter line_of queue h s → (call : Call A) (answer : Reply)
       → CallReplies (line_of call) s.stopped (at_capacity queue s.waiting) (drops_for_room policy s.waiting) answer
       → MayReply line_of kind.may_give kind.takes_whole format queue policy h (step.Call call, answer)
   call_reply h s a call answer c =
@@ -38,7 +38,7 @@ module _ {A : Type 0} (line_of : Call A → Option (List ℕ)) (kind : WriterKin
       (drops_for_room policy (drop (left_count h) (accepted line_of h))) answer) a.stopped_is
       (subst (λ w. CallReplies (line_of call) s.stopped (at_capacity queue w) (drops_for_room policy w) answer) a.waiting_is c)
 
-  pub nothing_waits : (h : List (Turn A)) (s : RunState) → QueueAfter line_of queue h s → s.waiting ≡ []
+  pub nothing_waits : (h : List (Turn A)) (s : QueueState) → QueueAfter line_of queue h s → s.waiting ≡ []
       → slice_get (accepted line_of h) (left_count h) ≡ None
   nothing_waits h s a none = slice_get_past (accepted line_of h) (left_count h) (omega (
     arith,
@@ -54,7 +54,7 @@ module _ {A : Type 0} (line_of : Call A → Option (List ℕ)) (kind : WriterKin
       subst (λ o. TakeReplies o (slice_get (accepted line_of h) (left_count h)) (is_stopped h) answer) (sym e)
       (subst (λ o. TakeReplies hand o (is_stopped h) answer) (sym f) (subst (λ b. TakeReplies hand next b answer) (sym g) r))
 
-  pub hand_reply : (h : List (Turn A)) (s : RunState) (hand : Option (List ℕ)) (answer : Reply) → QueueAfter line_of queue h s → s.in_hand ≡ hand
+  pub hand_reply : (h : List (Turn A)) (s : QueueState) (hand : Option (List ℕ)) (answer : Reply) → QueueAfter line_of queue h s → s.in_hand ≡ hand
       → HandReplies kind.may_give kind.takes_whole format hand answer
       → MayReply line_of kind.may_give kind.takes_whole format queue policy h (step.Hand, answer)
   hand_reply h s hand answer a e r = subst (λ o. HandReplies kind.may_give kind.takes_whole format o answer) (sym e ∙ a.hand_is) r

@@ -2,17 +2,19 @@
 use Rattle.std.proofs.Common.{◌≡◌, ℕ, List, [], ◌∷◌, ◌++◌, Option, length, refl, sym, ap, ◌∙◌, arith, subst}
 use Rattle.std.specs.Prelude.{All}
 use Rattle.std.specs.List.{zip}
-use Rattle.std.proofs.lemmas.List.{append-nil}
+use Rattle.std.proofs.lemmas.List.{append-nil, append_assoc}
 use Rattle.std.proofs.lemmas.List.Concat.{flat_map-append}
 use Rattle.std.proofs.lemmas.List.Elements.{All-append}
-use Rattle.cadence_flow.specs.Frame.{Format}
-use Rattle.cadence_flow.specs.Writer.{WriterKind}
 use Rattle.cadence_queue.specs.declared.policy.QueuePolicy.{QueuePolicy}
 use Rattle.cadence_settings.specs.declared.call.Call.{Call}
 use Rattle.cadence_schedule.specs.declared.steps.Step.{Step}
 use Rattle.cadence_schedule.specs.declared.steps.Reply.{Reply}
 use Rattle.cadence_schedule.specs.RunHistory.{Turn, accepted, accepted_by_turn}
-use Rattle.cadence_schedule.specs.Moves.{RunState, Moves, Runs}
+use Rattle.cadence_schedule.specs.Moves.{QueueState, Moves, Goes, at_start, given_in}
+use Rattle.cadence_schedule.specs.Running.{MovesQueue, Runs, given_by, queue_state}
+use Rattle.cadence_schedule.specs.Sendings.{Sending, AllLead}
+use Rattle.cadence_schedule.specs.Joined.{lead_joined}
+use Rattle.cadence_schedule.specs.declared.running.Running.{Running}
 
 module _ {A : Type 0} where
   pub zip_push : (xs : List (Step A)) (ys : List Reply) (x : Step A) (y : Reply) → length xs ≡ length ys
@@ -38,28 +40,35 @@ module _ {A : Type 0} where
       ∙ ap (λ l. accepted of (zip xs ys) ++ l) (append-nil (accepted_by_turn of (x, y)))))
       (All-append P (accepted of (zip xs ys)) (accepted_by_turn of (x, y)) before here))
 
-  module _ (line_of : Call A → Option (List ℕ)) (kind : WriterKind) (format : Format) (queue : Option ℕ) (policy : QueuePolicy) where
-    runs_more : (old mid new : RunState) (turns : List (Turn A)) (t : Turn A) → Runs line_of kind format queue policy old turns mid
-        → Moves line_of kind format queue policy mid t new → Runs line_of kind format queue policy old (turns ++ t ∷ []) new
-    runs_more old mid new [] t same move = (new, subst (λ s. Moves line_of kind format queue policy s t new) same move, refl)
-    runs_more old mid new (u ∷ turns) t (next, first, rest) move = (next, first, runs_more next mid new turns t rest move)
+module _ {A : Type 0} (line_of : Call A → Option (List ℕ)) (queue : Option ℕ) (policy : QueuePolicy) where
+  goes_more : (old mid new : QueueState) (turns : List (Turn A)) (given : List Sending) (t : Turn A) → Goes line_of queue policy old turns given mid
+      → Moves line_of queue policy mid t new → Goes line_of queue policy old (turns ++ t ∷ []) (given ++ given_in t mid.in_hand) new
+  goes_more old mid new [] given t (none, same) move = (
+    new,
+    [],
+    ap (λ xs. xs ++ given_in t mid.in_hand) none ∙ ap (λ s. given_in t s.in_hand) same ∙ sym (append-nil (given_in t old.in_hand)),
+    subst (λ s. Moves line_of queue policy s t new) same move,
+    (refl, refl),
+  )
+  goes_more old mid new (u ∷ turns) given t (next, rest, are, first, later) move = (
+    next,
+    rest ++ given_in t mid.in_hand,
+    ap (λ xs. xs ++ given_in t mid.in_hand) are ∙ append_assoc (given_in u old.in_hand) rest (given_in t mid.in_hand),
+    first,
+    goes_more next mid new turns rest t later move,
+  )
 
-    -- A run and one step more with its reply are a run.
-    pub runs_push : (old mid new : RunState) (xs xs' : List (Step A)) (ys ys' : List Reply) (x : Step A) (y : Reply) → length xs ≡ length ys
-        → xs' ≡ xs ++ x ∷ [] → ys' ≡ ys ++ y ∷ []
-        → Runs line_of kind format queue policy old (zip xs ys) mid → Moves line_of kind format queue policy mid (x, y) new
-        → Runs line_of kind format queue policy old (zip xs' ys') new
-    runs_push old mid new xs xs' ys ys' x y short e f runs move =
-        subst (λ turns. Runs line_of kind format queue policy old turns new) (sym (zip_push xs ys x y short) ∙ (λ i. zip (sym e i) (sym f i)))
-        (runs_more old mid new (zip xs ys) (x, y) runs move)
-
-  -- A move stays one if the kind, the format, the capacity and the policy of the queue are replaced by equal ones.
-  pub moves_along : (line_of : Call A → Option (List ℕ)) (kind kind' : WriterKind) (format format' : Format) (queue queue' : Option ℕ)
-      (policy policy' : QueuePolicy) (old : RunState) (t : Turn A) (new : RunState)
-      → kind ≡ kind' → format ≡ format' → queue ≡ queue' → policy ≡ policy' → Moves line_of kind format queue policy old t new
-      → Moves line_of kind' format' queue' policy' old t new
-  moves_along line_of kind kind' format format' queue queue' policy policy' old t new k f q p move =
-      subst (λ x. Moves line_of kind' format' queue' x old t new) p
-      (subst (λ x. Moves line_of kind' format' x policy old t new) q
-      (subst (λ x. Moves line_of kind' x queue policy old t new) f
-      (subst (λ x. Moves line_of x format queue policy old t new) k move)))
+  module _ {S : Type 0} (leads : S → Sending → S → Type 0) (first : S) where
+    -- One turn more.
+    pub runs_more : (mid new : Running S A) (turns : List (Turn A)) (t : Turn A) → Runs leads line_of queue policy first mid turns
+        → MovesQueue line_of mid t new → AllLead leads mid.recipient (given_by mid t) new.recipient
+        → Runs leads line_of queue policy first new (turns ++ t ∷ [])
+    runs_more mid new turns t r move led = record {
+      given = r.given ++ given_by mid t;
+      goes = goes_more at_start (queue_state mid) (queue_state new) turns r.given t r.goes
+          (subst (λ p. Moves line_of queue p (queue_state mid) t (queue_state new)) r.same_policy
+          (subst (λ q. Moves line_of q mid.queue.policy (queue_state mid) t (queue_state new)) r.same_queue move.moves));
+      led = lead_joined leads r.given (given_by mid t) first mid.recipient new.recipient r.led led;
+      same_queue = move.same_queue ∙ r.same_queue;
+      same_policy = move.same_policy ∙ r.same_policy;
+    }

@@ -1,56 +1,68 @@
 -- The headline of a whole run, from its first state, its steps and its outcome.
-use Rattle.std.proofs.Common.{◌≡◌, ℕ, ◌^◌, ◌<◌, ◌≤◌, List, [], length, sym, ap, ◌∙◌, ◌≢◌, arith, subst, Some, Option, Vec, map, true}
-use Rattle.std.specs.List.{zip}
-use Rattle.std.specs.Prelude.{All, IsTrue, codes, string_bytes}
-use Rattle.std.specs.Option.{option_map}
-use Rattle.cadence_flow.specs.Frame.{Format}
-use Rattle.cadence_flow.specs.Sums.{counted_kind, zero_sums}
+use Rattle.std.proofs.Common.{◌≡◌, ℕ, ◌+◌, ◌%◌, ◌^◌, ◌<◌, ◌≤◌, List, ◌++◌, length, sym, ap, ◌∙◌, arith, subst, true, Option, Vec, map}
+use Rattle.std.specs.List.{AllByRecursion, zip}
+use Rattle.std.specs.Prelude.{All, IsTrue, codes}
+use Rattle.std.proofs.lemmas.List.{length-map}
+use Rattle.cadence_flow.specs.Frame.{Format, size_of, stream, taken_stream}
 use Rattle.cadence_flow.specs.Writer.{PacketHistory, WriterKind}
+use Rattle.cadence_flow.specs.declared.io.counting.CountingWriter.{CountingWriter}
 use Rattle.cadence_queue.specs.declared.policy.QueuePolicy.{QueuePolicy}
 use Rattle.cadence_text.specs.Line.{line_of}
 use Rattle.cadence_text.specs.Metric.{Metric}
 use Rattle.cadence_text.specs.OneReading.{IsFreeOfSeparators}
 use Rattle.cadence_text.specs.Representable.{IsRepresentable}
+use Rattle.cadence_settings.specs.CallData.{line_of_data, metric_of_data}
+use Rattle.cadence_settings.specs.Laws.{StrictCallsAreFree}
+use Rattle.cadence_settings.specs.Settings.{Settings, is_free_settings}
 use Rattle.cadence_settings.specs.declared.call.Call.{Call}
-use Rattle.cadence_flow.specs.declared.io.counting.CountingWriter.{CountingWriter}
+use Rattle.cadence_settings.proofs.calls.FreeTexts.{strict_data_free}
+use Rattle.cadence_settings.proofs.calls.NonemptyLines.{line_filled}
+use Rattle.cadence_schedule.specs.Packed.{ArePacked}
+use Rattle.cadence_schedule.specs.Headline.{Given, given_of, packets_between, HasHeadline, IsAccounted, ReportsWhole}
+use Rattle.cadence_schedule.specs.Joined.{lead_seen}
+use Rattle.cadence_schedule.specs.Laws.{LeastPackets, PacketsReadOneWay}
+use Rattle.cadence_schedule.specs.Packets.{ArePacketsOf, ReadsAs}
+use Rattle.cadence_schedule.specs.PackedRuns.{Packs, view_of}
+use Rattle.cadence_schedule.specs.Plan.{NoGroupHasRoom, IsFewest, groups_of}
+use Rattle.cadence_schedule.specs.RunHistory.{Turn, accepted, kept, kept_counts, marks, refusals}
+use Rattle.cadence_schedule.specs.RunOutcome.{outcome_after}
+use Rattle.cadence_schedule.specs.Running.{Runs, queue_state}
+use Rattle.cadence_schedule.specs.Sendings.{Sending, AllLead, counts_of_kept, marks_from, refusals_from, texts_in}
+use Rattle.cadence_schedule.specs.declared.packing.Packing.{Packing}
 use Rattle.cadence_schedule.specs.declared.running.Running.{Running}
 use Rattle.cadence_schedule.specs.declared.steps.Reply.{Reply}
 use Rattle.cadence_schedule.specs.declared.steps.Step.{Step}
-use Rattle.cadence_settings.specs.CallData.{line_of_data, metric_of_data}
-use Rattle.cadence_schedule.specs.Headline.{given_of, packets_between, HasHeadline, IsAccounted, ReportsWhole}
-use Rattle.cadence_schedule.specs.RunHistory.{Turn, accepted, kept, marks, refusals}
-use Rattle.cadence_schedule.specs.Laws.{LeastPackets, PacketsReadOneWay}
-use Rattle.cadence_settings.specs.Laws.{StrictCallsAreFree}
-use Rattle.cadence_schedule.specs.Moves.{RunState, Runs}
-use Rattle.cadence_schedule.specs.Packets.{ArePacketsOf, ReadsAs}
-use Rattle.cadence_schedule.specs.RunOutcome.{outcome_after}
-use Rattle.cadence_schedule.specs.Running.{IsAtStart, run_state}
-use Rattle.cadence_settings.specs.Settings.{Settings, is_free_settings}
-use Rattle.cadence_schedule.proofs.history.KeptMetrics.{all_accepted, all_kept, kept_mapped}
-use Rattle.cadence_settings.proofs.calls.FreeTexts.{strict_data_free}
-use Rattle.cadence_settings.proofs.calls.NonemptyLines.{line_filled}
-use Rattle.cadence_schedule.proofs.headline.AfterRun.{run_after}
-use Rattle.cadence_schedule.proofs.headline.FinishedRun.{run_taken, run_stream, run_cut, run_late, run_tight, run_submitted, run_drained}
-use Rattle.cadence_schedule.proofs.headline.FinishedRun.{run_dropped, run_sums}
+use Rattle.cadence_schedule.proofs.headline.FinishedRun.{errors_le}
+use Rattle.cadence_schedule.proofs.headline.PackedRun.{IsNew, answers, counted, inner, packed}
+use Rattle.cadence_schedule.proofs.headline.Queued.{Queued}
+use Rattle.cadence_schedule.proofs.headline.QueuedRun.{after, all_filled, has_replies, texts_filled}
 use Rattle.cadence_schedule.proofs.headline.RunOfTurns.{length-zip}
-use Rattle.cadence_schedule.proofs.history.QueueAndHand.{at_start}
-use Rattle.cadence_schedule.proofs.headline.EachTurn.{After}
+use Rattle.cadence_schedule.proofs.history.KeptLines.{length-kept}
+use Rattle.cadence_schedule.proofs.history.KeptMetrics.{all_accepted, all_kept, kept_mapped}
+use Rattle.cadence_schedule.proofs.packets.PackedLines.{AreFilled}
+use Rattle.cadence_schedule.proofs.packets.Refusing.{MayAnswer}
 
 module _ {W A : Type 0} (kind_of : W → WriterKind) (history_of : W → PacketHistory) (settings : Settings) (capacity : ℕ) (ending : List ℕ)
     (queue : Option ℕ) (policy : QueuePolicy) (steps : List (Step A)) (writer : W) where
-  abbrev counted : CountingWriter W → WriterKind
-  counted w = counted_kind (kind_of w.inner) (history_of w.inner) w.stats
+  abbrev given : Given A
+  given = given_of kind_of history_of settings capacity ending queue policy steps writer
 
-  abbrev inner : CountingWriter W → PacketHistory
-  inner w = history_of w.inner
+  abbrev counts : CountingWriter W → WriterKind
+  counts = counted kind_of history_of settings capacity ending queue policy steps writer
 
-  module _ (law : (metric : Metric) → 0 < length (line_of metric)) (begun run : Running (CountingWriter W) A) (none replies : Vec Reply A)
-      (start : IsAtStart capacity ending queue policy (length steps) (record { inner = writer; stats = zero_sums }) begun none)
-      (runs : Runs (line_of_data settings) (counted begun.packer.writer) begun.packer.format begun.queue.capacity begun.queue.policy
-      (run_state inner begun) (zip steps replies.items) (run_state inner run))
-      (one_each : length replies.items ≡ length steps) (same_kind : counted run.packer.writer ≡ counted begun.packer.writer)
-      (same_format : run.packer.format ≡ begun.packer.format) (same_queue : run.queue.capacity ≡ begun.queue.capacity)
-      (same_policy : run.queue.policy ≡ begun.queue.policy) where
+  abbrev shows : CountingWriter W → PacketHistory
+  shows = inner kind_of history_of settings capacity ending queue policy steps writer
+
+  abbrev pub leads : Packing (CountingWriter W) A → Sending → Packing (CountingWriter W) A → Type 0
+  leads old sending new = Packs counts shows (view_of old) sending (view_of new)
+
+  module _ (law : (metric : Metric) → 0 < length (line_of metric)) (least : LeastPackets) (first : Packing (CountingWriter W) A)
+      (run : Running (Packing (CountingWriter W) A) A) (replies : Vec Reply A)
+      (new : IsNew kind_of history_of settings capacity ending queue policy steps writer first)
+      (one_each : length replies.items ≡ length steps) (few : length steps < 2 ^ 64)
+      (r : Runs leads (line_of_data settings) queue policy first run (zip steps replies.items))
+      (bound : length run.recipient.packer.held ≤ run.recipient.packer.format.capacity)
+      (bytes : run.recipient.packer.writer.stats.bytes_sent < 2 ^ 64) (packets : run.recipient.packer.writer.stats.packets_sent < 2 ^ 64) where
     abbrev lines : Call A → Option (List ℕ)
     lines = line_of_data settings
 
@@ -60,78 +72,63 @@ module _ {W A : Type 0} (kind_of : W → WriterKind) (history_of : W → PacketH
     abbrev format : Format
     format = record { capacity = capacity; ending = ending }
 
+    led : AllLead (Packs counts shows) (view_of first) r.given (view_of run.recipient)
+    led = lead_seen view_of (Packs counts shows) r.given first run.recipient r.led
+
+    causes : AllByRecursion (MayAnswer given.kind format) r.given
+    causes = answers kind_of history_of settings capacity ending queue policy steps writer first run.recipient new r.given led
+
+    says : Queued lines given.kind format queue policy turns (queue_state run) r.given
+    says = after history_of given leads first run run.recipient replies one_each few r causes
+
+    -- what was given and the history say the same of the marks, the refusals and the kept lines
+    same : ◌≡◌ {A = List ℕ × List ℕ × List (List ℕ × ℕ)} (marks_from 0 r.given, refusals_from 0 r.given, counts_of_kept r.given)
+        (marks lines turns, refusals lines turns, kept_counts lines turns)
+    same = λ i. (says.marks_are i, says.refusals_are i, says.kept_is i)
+
+    pack : ArePacked history_of given (outcome_after run run.recipient replies) r.given
+    pack =
+        let short : length turns ≡ length steps = length-zip steps replies.items (sym one_each) in
+        packed kind_of history_of settings capacity ending queue policy steps writer first run.recipient new r.given led
+        (subst AreFilled (sym says.kept_is) (texts_filled (kept_counts lines turns) (all_filled lines (line_filled law settings) turns))) (length steps)
+        (omega (arith, ap (λ ks. length ks) says.kept_is, length-map (kept_counts lines turns) (λ (k : List ℕ × ℕ). k.0), length-kept lines turns, short))
+        (omega (arith, says.errors_are, errors_le lines turns, short)) few run replies least bound bytes packets
+
     abbrev before : PacketHistory
     before = history_of writer
 
-    abbrev kind : WriterKind
-    kind = counted_kind (kind_of writer) (history_of writer) zero_sums
+    abbrev last : PacketHistory
+    last = history_of run.recipient.packer.writer.inner
 
-    abbrev ended : RunState
-    ended = run_state inner run
-
-    short : length (zip steps replies.items) < 2 ^ 64
-    short = omega (arith, length-zip steps replies.items (sym one_each), start.few)
-
-    kind_is : counted begun.packer.writer ≡ kind
-    kind_is = ap (λ p. counted p.writer) start.packer_is
-
-    began : run_state inner begun ≡ at_start before
-    began = λ i. record {
-      waiting = map string_bytes (start.queue_is i).waiting;
-      stopped = (start.queue_is i).stopped;
-      submitted = (start.queue_is i).submitted;
-      drained = (start.queue_is i).drained;
-      dropped = (start.queue_is i).dropped;
-      in_hand = option_map string_bytes (start.hand_is i);
-      cut = start.cut_is i;
-      history = history_of (start.packer_is i).writer.inner;
-      held = (start.packer_is i).held;
-    }
-
-    filled : (call : Call A) (line : List ℕ) → line_of_data settings call ≡ Some line → line ≢ []
-    filled = line_filled law settings
-
-    after : After lines filled kind format queue policy before turns ended
-    after =
-        run_after lines filled kind _ format _ queue _ policy _ before (run_state inner begun) ended turns kind_is
-        (ap (λ p. p.format) start.packer_is) (ap (λ q. q.capacity) start.queue_is) (ap (λ q. q.policy) start.queue_is) began short runs
+    cut_is : ReportsWhole (kind_of writer)
+        → ArePacketsOf format (marks lines turns) (refusals lines turns) (kept lines turns) run.recipient.cut.items (packets_between before last) run.recipient.packer.held
+    cut_is whole =
+        subst (λ t. ArePacketsOf format t.0 t.1 (texts_in t.2) run.recipient.cut.items (packets_between before last) run.recipient.packer.held) same (pack.cut whole)
 
     -- the headline
-    pub has_headline : LeastPackets
-        → HasHeadline history_of (given_of kind_of history_of settings capacity ending queue policy steps writer) (outcome_after run replies)
-    has_headline least = record {
-      stream = λ whole. run_stream lines filled kind format queue policy before turns ended after whole.0 whole.1;
-      cut = λ whole. run_cut lines filled kind format queue policy before turns ended after whole.0 whole.1;
-      replies = record {
-        one_each = one_each;
-        causes = after.replies;
-        waiting = after.line.waiting_is;
-        submitted = run_submitted lines filled kind format queue policy before turns ended after short;
-        drained = run_drained lines filled kind format queue policy before turns ended after short;
-        dropped = run_dropped lines filled kind format queue policy before turns ended after short;
-        stopped = after.line.stopped_is;
-        capacity = same_queue ∙ ap (λ q. q.capacity) start.queue_is;
-        policy = same_policy ∙ ap (λ q. q.policy) start.queue_is;
-        in_hand = after.line.hand_is;
-      };
-      errors = after.refusals;
-      fewest = λ whole none.
-          let tight = run_tight lines filled kind format queue policy before turns ended after short whole.0 whole.1 none in
-          (tight.no_later, least _ _ _ _ tight);
+    pub has_headline : HasHeadline history_of given (outcome_after run run.recipient replies)
+    has_headline = record {
+      stream = λ whole. pack.stream whole ∙ ap (λ ks. stream format (texts_in ks)) says.kept_is;
+      cut = cut_is;
+      replies = has_replies history_of given leads first run run.recipient replies one_each few r causes;
+      errors = λ whole. pack.errors whole ∙ ap (λ n. (before.refusals + n) % 2 ^ 64) says.errors_are;
+      fewest = λ whole none. (
+        subst (λ t. NoGroupHasRoom capacity t.0 (groups_of run.recipient.cut.items (map (size_of format) (texts_in t.2)))) same (pack.tight whole none).no_later,
+        subst (λ t. IsFewest capacity t.0 (map (size_of format) (texts_in t.2)) run.recipient.cut.items) same (pack.fewest whole none),
+      );
     }
 
     -- a listener reads the kept metrics, if they are free of separators
     reading : PacketsReadOneWay → ReportsWhole (kind_of writer) → ending ≡ codes "\n"
         → All IsFreeOfSeparators (kept (metric_of_data settings) turns)
-        → ReadsAs (kept (metric_of_data settings) turns) (packets_between before ended.history) run.packer.held
+        → ReadsAs (kept (metric_of_data settings) turns) (packets_between before last) run.recipient.packer.held
     reading reads whole newline free =
-        reads capacity (marks lines turns) (refusals lines turns) run.cut.items (kept (metric_of_data settings) turns)
-        (packets_between before ended.history) run.packer.held free
+        reads capacity (marks lines turns) (refusals lines turns) run.recipient.cut.items (kept (metric_of_data settings) turns)
+        (packets_between before last) run.recipient.packer.held free
         (subst (λ e. ArePacketsOf record { capacity = capacity; ending = e } (marks lines turns) (refusals lines turns)
-        (map line_of (kept (metric_of_data settings) turns)) run.cut.items (packets_between before ended.history) run.packer.held) newline
-        (subst (λ ls. ArePacketsOf format (marks lines turns) (refusals lines turns) ls run.cut.items
-        (packets_between before ended.history) run.packer.held) (kept_mapped line_of (metric_of_data settings) turns)
-        (run_cut lines filled kind format queue policy before turns ended after whole.0 whole.1)))
+        (map line_of (kept (metric_of_data settings) turns)) run.recipient.cut.items (packets_between before last) run.recipient.packer.held) newline
+        (subst (λ ls. ArePacketsOf format (marks lines turns) (refusals lines turns) ls run.recipient.cut.items
+        (packets_between before last) run.recipient.packer.held) (kept_mapped line_of (metric_of_data settings) turns) (cut_is whole)))
 
     -- of strict settings without a separator, the kept metrics are free of separators
     free_kept : StrictCallsAreFree → (IsTrue settings.strict → IsTrue (is_free_settings settings)) → settings.strict ≡ true
@@ -142,18 +139,14 @@ module _ {W A : Type 0} (kind_of : W → WriterKind) (history_of : W → PacketH
 
     -- what is promised beside it
     pub is_accounted : PacketsReadOneWay → StrictCallsAreFree → (IsTrue settings.strict → IsTrue (is_free_settings settings))
-        → All IsRepresentable (accepted (metric_of_data settings) turns)
-        → length run.packer.held ≤ run.packer.format.capacity
-        → run.packer.writer.stats.bytes_sent < 2 ^ 64 → run.packer.writer.stats.packets_sent < 2 ^ 64
-        → IsAccounted history_of (given_of kind_of history_of settings capacity ending queue policy steps writer) (outcome_after run replies)
-    is_accounted reads law free each bound bytes packets = record {
-      late = λ whole. run_late lines filled kind format queue policy before turns ended after whole.0 whole.1;
-      taken = λ reports. run_taken lines filled kind format queue policy before turns ended after reports;
-      held = subst (λ (f : Format). length run.packer.held ≤ f.capacity) (same_format ∙ ap (λ p. p.format) start.packer_is) bound;
-      stats = λ reports.
-          run_sums (kind_of writer) (kind_of run.packer.writer.inner) before (history_of run.packer.writer.inner) run.packer.writer.stats
-          (same_kind ∙ kind_is) reports (after.text reports).extends bytes packets;
-      earlier = λ reports. (after.text reports).extends;
+        → All IsRepresentable (accepted (metric_of_data settings) turns) → IsAccounted history_of given (outcome_after run run.recipient replies)
+    is_accounted reads law free each = record {
+      late = λ whole.
+          subst (λ t. NoGroupHasRoom capacity (t.0 ++ t.1) (groups_of run.recipient.cut.items (map (size_of format) (texts_in t.2)))) same (pack.late whole);
+      taken = λ reports. pack.taken reports ∙ ap (taken_stream format) says.kept_is;
+      held = pack.within;
+      stats = pack.stats;
+      earlier = pack.earlier;
       representable = all_kept IsRepresentable (metric_of_data settings) turns each;
       one_reading = λ whole newline plain. reading reads whole newline plain;
       strict_free = λ strict. free_kept law free strict;

@@ -14,8 +14,7 @@ use Rattle.cadence_schedule.specs.declared.steps.Step.TheVariants as step
 use Rattle.cadence_schedule.specs.declared.steps.Reply.TheVariants as reply
 use Rattle.cadence_schedule.specs.RunHistory.{Turn, taken_count, takes_text, dropped_count, drops_text, left_count, outcomes, outcome_by}
 use Rattle.cadence_schedule.specs.RunHistory.{stops, is_stopped, accepted, accepted_by_turn, undropped_lines, in_hand}
-use Rattle.cadence_schedule.specs.Moves.{RunState}
-use Rattle.cadence_flow.specs.Writer.{PacketHistory}
+use Rattle.cadence_schedule.specs.Moves.{QueueState, at_start}
 use Rattle.cadence_schedule.proofs.history.OneTurnMore.{or_no, accepted-push, outcomes-push, taken_count-push, dropped_count-push, stopped-push}
 use Rattle.cadence_schedule.proofs.history.UndroppedLines.{out, length-out, undropped_lines_is, undropped_lines-push, undropped_lines-take}
 
@@ -74,21 +73,8 @@ within_less : (queue : Option ℕ) (line : List ℕ) (rest : List (List ℕ)) �
 within_less None line rest within = tt
 within_less (Some capacity) line rest within = omega arith
 
--- the state before the first step, over a writer with this history
-abbrev pub at_start : PacketHistory → RunState
-at_start history =
-    record { waiting = []; stopped = false; submitted = 0; drained = 0; dropped = 0; in_hand = None; cut = []; history = history; held = [] }
-
--- The two states have the same queue.
-pub record SameQueue (old new : RunState) : Type 0 where
-  pub waiting : new.waiting ≡ old.waiting
-  pub stopped : new.stopped ≡ old.stopped
-  pub submitted : new.submitted ≡ old.submitted
-  pub drained : new.drained ≡ old.drained
-  pub dropped : new.dropped ≡ old.dropped
-
 module _ {A : Type 0} (line_of : Call A → Option (List ℕ)) (queue : Option ℕ) where
-  pub record QueueAfter (h : List (Turn A)) (s : RunState) : Type 0 where
+  pub record QueueAfter (h : List (Turn A)) (s : QueueState) : Type 0 where
     pub handed_le : length (outcomes h) ≤ taken_count h
     pub ahead : taken_count h ≤ length (outcomes h) + 1
     pub within : left_count h ≤ length (accepted line_of h)
@@ -166,7 +152,7 @@ module _ {A : Type 0} (line_of : Call A → Option (List ℕ)) (queue : Option �
       (cases_lt (length (outcomes h)) (taken_count h))
 
   -- If the hand is empty, as many lines were handed on as were taken.
-  pub empty_hand : (h : List (Turn A)) (s : RunState) → QueueAfter h s → s.in_hand ≡ None → taken_count h ≡ length (outcomes h)
+  pub empty_hand : (h : List (Turn A)) (s : QueueState) → QueueAfter h s → s.in_hand ≡ None → taken_count h ≡ length (outcomes h)
   empty_hand h s q e =
       ⊎_elim
       (λ (more : length (outcomes h) < taken_count h). absurd (slice_get_some (undropped_lines line_of h) (length (outcomes h)) (omega (arith, long h q.within))
@@ -176,7 +162,7 @@ module _ {A : Type 0} (line_of : Call A → Option (List ℕ)) (queue : Option �
       (cases_lt (length (outcomes h)) (taken_count h))
 
   -- If a line is in hand, it is the next undropped line after those that were handed on.
-  pub full_hand : (h : List (Turn A)) (s : RunState) (line : List ℕ) → QueueAfter h s → s.in_hand ≡ Some line
+  pub full_hand : (h : List (Turn A)) (s : QueueState) (line : List ℕ) → QueueAfter h s → s.in_hand ≡ Some line
       → (taken_count h ≡ length (outcomes h) + 1) × (slice_get (undropped_lines line_of h) (length (outcomes h)) ≡ Some line)
   full_hand h s line q e =
       ⊎_elim
@@ -190,9 +176,9 @@ module _ {A : Type 0} (line_of : Call A → Option (List ℕ)) (queue : Option �
       (cases_lt (length (outcomes h)) (taken_count h))
 
   -- The queue and the hand stay right after a turn that accepts, takes, drops, hands on and stops nothing.
-  pub quiet : (h : List (Turn A)) (t : Turn A) (s s' : RunState) → SameQueue s s' → s'.in_hand ≡ s.in_hand → accepted_by_turn line_of t ≡ []
-      → takes_text t ≡ false → drops_text t ≡ false → outcome_by t ≡ [] → stops t ≡ false → QueueAfter h s → QueueAfter (h ++ t ∷ []) s'
-  quiet h t s s' same hand a k d b z q =
+  pub quiet : (h : List (Turn A)) (t : Turn A) (s : QueueState) → accepted_by_turn line_of t ≡ [] → takes_text t ≡ false → drops_text t ≡ false
+      → outcome_by t ≡ [] → stops t ≡ false → QueueAfter h s → QueueAfter (h ++ t ∷ []) s
+  quiet h t s a k d b z q =
       let w : Grows h (h ++ t ∷ []) [] 0 0 0 false = grows h t [] [] false false false a b k d z in
       let accepted_same : accepted line_of (h ++ t ∷ []) ≡ accepted line_of h = w.accepted_is ∙ append-nil (accepted line_of h) in
       let left_same : left_count (h ++ t ∷ []) ≡ left_count h = omega (arith, w.left_is) in
@@ -200,17 +186,17 @@ module _ {A : Type 0} (line_of : Call A → Option (List ℕ)) (queue : Option �
         handed_le = omega (arith, q.handed_le, w.handed_is, w.taken_is);
         ahead = omega (arith, q.ahead, w.handed_is, w.taken_is);
         within = omega (arith, q.within, w.length_is, left_same);
-        waiting_is = same.waiting ∙ q.waiting_is ∙ (λ i. drop (sym left_same i) (sym accepted_same i));
-        hand_is = hand ∙ q.hand_is ∙ hand_same h t q.ahead q.within (omega (arith, w.taken_is)) (omega (arith, w.handed_is));
-        stopped_is = same.stopped ∙ q.stopped_is ∙ sym (w.stopped_is ∙ or_no (is_stopped h));
-        submitted_is = same.submitted ∙ q.submitted_is ∙ ap (λ l. length l % 2 ^ 64) (sym accepted_same);
-        drained_is = omega (arith, same.drained, q.drained_is, w.taken_is);
-        dropped_is = omega (arith, same.dropped, q.dropped_is, w.dropped_is);
-        room = subst (λ w. IsWithin queue w) (sym same.waiting) q.room;
+        waiting_is = q.waiting_is ∙ (λ i. drop (sym left_same i) (sym accepted_same i));
+        hand_is = q.hand_is ∙ hand_same h t q.ahead q.within (omega (arith, w.taken_is)) (omega (arith, w.handed_is));
+        stopped_is = q.stopped_is ∙ sym (w.stopped_is ∙ or_no (is_stopped h));
+        submitted_is = q.submitted_is ∙ ap (λ l. length l % 2 ^ 64) (sym accepted_same);
+        drained_is = omega (arith, q.drained_is, w.taken_is);
+        dropped_is = omega (arith, q.dropped_is, w.dropped_is);
+        room = q.room;
       }
 
   -- The queue and the hand stay right after a call that is accepted by a queue that is not full.
-  pub queue_call : (h : List (Turn A)) (call : Call A) (n : ℕ) (line : List ℕ) (s : RunState) → line_of call ≡ Some line
+  pub queue_call : (h : List (Turn A)) (call : Call A) (n : ℕ) (line : List ℕ) (s : QueueState) → line_of call ≡ Some line
       → at_capacity queue s.waiting ≡ false → QueueAfter h s
       → QueueAfter (h ++ (step.Call call, reply.Called (Ok n)) ∷ []) (record
       s { waiting = s.waiting ++ option_to_list (line_of call); submitted = (s.submitted + 1) % 2 ^ 64 })
@@ -235,7 +221,7 @@ module _ {A : Type 0} (line_of : Call A → Option (List ℕ)) (queue : Option �
       }
 
   -- The queue and the hand stay right after a call that is accepted by a full queue, which drops its oldest line.
-  pub queue_drop : (policy : QueuePolicy) (h : List (Turn A)) (call : Call A) (n m : ℕ) (line oldest : List ℕ) (s : RunState)
+  pub queue_drop : (policy : QueuePolicy) (h : List (Turn A)) (call : Call A) (n m : ℕ) (line oldest : List ℕ) (s : QueueState)
       → line_of call ≡ Some line → drops_for_room policy s.waiting ≡ Some oldest → QueueAfter h s
       → QueueAfter (h ++ (step.Call call, reply.CallDropped n m) ∷ [])
       (record s {
@@ -282,7 +268,7 @@ module _ {A : Type 0} (line_of : Call A → Option (List ℕ)) (queue : Option �
       (drop_at (out line_of h) (line ∷ rest) (length (out line_of h)) refl)
 
   -- The queue and the hand stay right after a take that gets a line.
-  pub queue_take : (h : List (Turn A)) (n : ℕ) (line : List ℕ) (rest : List (List ℕ)) (s : RunState) → QueueAfter h s → s.in_hand ≡ None
+  pub queue_take : (h : List (Turn A)) (n : ℕ) (line : List ℕ) (rest : List (List ℕ)) (s : QueueState) → QueueAfter h s → s.in_hand ≡ None
       → s.waiting ≡ line ∷ rest
       → QueueAfter (h ++ (step.Take, reply.Text n) ∷ []) (record s { waiting = rest; drained = (s.drained + 1) % 2 ^ 64; in_hand = Some line })
   queue_take h n line rest s q none front =
@@ -311,10 +297,10 @@ module _ {A : Type 0} (line_of : Call A → Option (List ℕ)) (queue : Option �
       }
 
   -- The queue and the hand stay right after a turn that hands on one line.
-  pub queue_hand : (h : List (Turn A)) (t : Turn A) (o : Option ℕ) (line : List ℕ) (s s' : RunState) → SameQueue s s' → s'.in_hand ≡ None
-      → accepted_by_turn line_of t ≡ [] → takes_text t ≡ false → drops_text t ≡ false → outcome_by t ≡ o ∷ [] → stops t ≡ false → QueueAfter h s
-      → s.in_hand ≡ Some line → QueueAfter (h ++ t ∷ []) s'
-  queue_hand h t o line s s' same none a k d b z q some =
+  pub queue_hand : (h : List (Turn A)) (t : Turn A) (o : Option ℕ) (line : List ℕ) (s : QueueState) → accepted_by_turn line_of t ≡ []
+      → takes_text t ≡ false → drops_text t ≡ false → outcome_by t ≡ o ∷ [] → stops t ≡ false → QueueAfter h s → s.in_hand ≡ Some line
+      → QueueAfter (h ++ t ∷ []) (record s { in_hand = None })
+  queue_hand h t o line s a k d b z q some =
       let w : Grows h (h ++ t ∷ []) [] 1 0 0 false = grows h t [] (o ∷ []) false false false a b k d z in
       let accepted_same : accepted line_of (h ++ t ∷ []) ≡ accepted line_of h = w.accepted_is ∙ append-nil (accepted line_of h) in
       let left_same : left_count (h ++ t ∷ []) ≡ left_count h = omega (arith, w.left_is) in
@@ -323,17 +309,17 @@ module _ {A : Type 0} (line_of : Call A → Option (List ℕ)) (queue : Option �
         handed_le = omega (arith, next, w.handed_is, w.taken_is);
         ahead = omega (arith, q.ahead, w.handed_is, w.taken_is);
         within = omega (arith, q.within, w.length_is, left_same);
-        waiting_is = same.waiting ∙ q.waiting_is ∙ (λ i. drop (sym left_same i) (sym accepted_same i));
-        hand_is = none ∙ sym (hand_else (h ++ t ∷ []) (omega (arith, q.ahead, w.handed_is, w.taken_is)));
-        stopped_is = same.stopped ∙ q.stopped_is ∙ sym (w.stopped_is ∙ or_no (is_stopped h));
-        submitted_is = same.submitted ∙ q.submitted_is ∙ ap (λ l. length l % 2 ^ 64) (sym accepted_same);
-        drained_is = omega (arith, same.drained, q.drained_is, w.taken_is);
-        dropped_is = omega (arith, same.dropped, q.dropped_is, w.dropped_is);
-        room = subst (λ w. IsWithin queue w) (sym same.waiting) q.room;
+        waiting_is = q.waiting_is ∙ (λ i. drop (sym left_same i) (sym accepted_same i));
+        hand_is = sym (hand_else (h ++ t ∷ []) (omega (arith, q.ahead, w.handed_is, w.taken_is)));
+        stopped_is = q.stopped_is ∙ sym (w.stopped_is ∙ or_no (is_stopped h));
+        submitted_is = q.submitted_is ∙ ap (λ l. length l % 2 ^ 64) (sym accepted_same);
+        drained_is = omega (arith, q.drained_is, w.taken_is);
+        dropped_is = omega (arith, q.dropped_is, w.dropped_is);
+        room = q.room;
       }
 
   -- The queue and the hand stay right after a stop.
-  pub queue_stop : (h : List (Turn A)) (s : RunState) → QueueAfter h s → QueueAfter (h ++ (step.Stop, reply.Stopped) ∷ []) (record s { stopped = true })
+  pub queue_stop : (h : List (Turn A)) (s : QueueState) → QueueAfter h s → QueueAfter (h ++ (step.Stop, reply.Stopped) ∷ []) (record s { stopped = true })
   queue_stop h s q =
       let w : Grows h (h ++ (step.Stop, reply.Stopped) ∷ []) [] 0 0 0 true =
       grows h (step.Stop, reply.Stopped) [] [] false false true refl refl refl refl refl in
@@ -357,8 +343,8 @@ module _ {A : Type 0} (line_of : Call A → Option (List ℕ)) (queue : Option �
   within_none None = tt
   within_none (Some capacity) = zero-le
 
-  pub queue_none : (history : PacketHistory) → QueueAfter [] (at_start history)
-  queue_none history =
+  pub queue_none : QueueAfter [] at_start
+  queue_none =
       record {
         handed_le = zero-le;
         ahead = zero-le;

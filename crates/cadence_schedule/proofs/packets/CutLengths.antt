@@ -12,7 +12,7 @@ use Rattle.cadence_schedule.specs.Packets.{ArePacketsOf}
 use Rattle.cadence_schedule.proofs.plans.PlanGroups.{HasNoRoomForNext}
 use Rattle.cadence_schedule.proofs.packets.ListEnds.{joined, groups_of-lengths}
 use Rattle.cadence_flow.specs.Writer.{PacketHistory}
-use Rattle.cadence_schedule.specs.Moves.{HasLast}
+use Rattle.cadence_schedule.specs.Cut.{HasLast}
 use Rattle.cadence_schedule.proofs.packets.CutSoFar.{IsCutSoFar, held_last, joined-push}
 
 -- If a function is applied to each element of a list, the list is cut at the same places.

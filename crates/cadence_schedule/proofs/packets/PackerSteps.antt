@@ -9,7 +9,7 @@ use Rattle.cadence_flow.specs.Frame.{Format, size_of, is_oversize, frame, held_p
 use Rattle.cadence_flow.specs.Packer.{PackerState, Writes}
 use Rattle.cadence_flow.specs.Writer.{PacketHistory, WriterKind}
 use Rattle.cadence_schedule.proofs.plans.PlanGroups.{HasNoRoomForNext}
-use Rattle.cadence_schedule.specs.Moves.{HasLast, Counted, CountsLine, joins_held}
+use Rattle.cadence_schedule.specs.Cut.{HasLast, Counted, CountsLine, joins_held}
 use Rattle.cadence_schedule.proofs.packets.CutSoFar.{IsCutSoFar, new_group, joins_group, refuses_line, last_held, held_last, frame_within}
 use Rattle.cadence_schedule.proofs.packets.CutSoFar.{frame_past, held_packet_is, nil_front}
 

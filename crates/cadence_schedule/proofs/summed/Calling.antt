@@ -1,6 +1,5 @@
 -- Which lines and flushes the aggregator gives to the packer in each of its calls.
-use Rattle.std.proofs.Common.{◌≡◌, ℕ, List, [], ◌∷◌, ◌++◌, Option, Some, None, Ok, Err, Result, refl, sym, ap, ◌∙◌, subst, arith, inl, inr}
-use Rattle.std.specs.List.{AllZip}
+use Rattle.std.proofs.Common.{◌≡◌, ℕ, List, [], ◌∷◌, ◌++◌, Option, Some, None, Ok, Err, Result, length, refl, sym, ap, ◌∙◌, subst, arith, inl, inr}
 use Rattle.std.proofs.lemmas.List.{append-nil}
 use Rattle.cadence_aggregate.proofs.Observed.{same_of}
 use Rattle.cadence_aggregate.specs.Aggregate.{held}
@@ -11,16 +10,13 @@ use Rattle.cadence_aggregate.specs.declared.sink.Fault.TheVariants as fault
 use Rattle.cadence_aggregating.specs.Says.{LineSays}
 use Rattle.cadence_errors.specs.declared.SinkError.{SinkError}
 use Rattle.cadence_flow.specs.Writer.{PacketHistory, WriterKind}
-use Rattle.cadence_schedule.specs.RunHistory.{Turn}
-use Rattle.cadence_schedule.specs.declared.steps.Step.TheVariants as step
-use Rattle.cadence_schedule.specs.declared.steps.Reply.TheVariants as reply
-use Rattle.cadence_schedule.specs.Asked.{Asks, FailsBy, WritesLines, WritesThen}
+use Rattle.cadence_schedule.specs.Asked.{AsksFlush, FailsBy, WritesLines, WritesThen}
 use Rattle.cadence_schedule.specs.Causes.{IsCause}
 use Rattle.cadence_schedule.specs.Leads.{LeadsSink, SinkPacks, lines_by, refused_count, sent_by}
-use Rattle.cadence_schedule.specs.Led.{packs_joined, packs_none}
-use Rattle.cadence_schedule.specs.PackedRuns.{KeepsKindAndFormat, MovesPacker, packed_state}
-use Rattle.cadence_schedule.specs.Sendings.{Sending, flushed}
-use Rattle.cadence_schedule.specs.Steps.{SumsTurn, accepted_in_turn}
+use Rattle.cadence_schedule.specs.Led.{packs_joined}
+use Rattle.cadence_schedule.specs.PackedRuns.{Packs, view_of}
+use Rattle.cadence_schedule.specs.Sendings.{Sending, wrote, flushed}
+use Rattle.cadence_schedule.specs.SumsCalls.{SumsCall}
 use Rattle.cadence_schedule.specs.declared.packer_sink.PackerSink.{PackerSink}
 use Rattle.cadence_schedule.specs.declared.packed_sums.PackedSums.{PackedSums}
 
@@ -38,18 +34,6 @@ fails_by asked fault.OutOfMemory None e count cause writes = inr (writes, cause)
 fails_by asked fault.OutOfMemory (Some x) e count cause writes = absurd (omega (arith, count))
 
 module _ {P A : Type 0} (kind : P → WriterKind) (history : P → PacketHistory) where
-  -- A turn that leaves the aggregator and the packer asked nothing.
-  pub idle : (hand : Option (List ℕ)) (old : PackedSums P A) (t : Turn A) (new : PackedSums P A)
-      → accepted_in_turn t hand ≡ [] → Asks t [] → new ≡ old → SumsTurn kind history hand old t new
-  idle hand old t new none asks same = subst (λ s. SumsTurn kind history hand old t s) (sym same) (record {
-    asked = [];
-    asks = asks;
-    packs = packs_none kind history old.sink;
-    said = [];
-    says = subst (λ ls. AllZip LineSays ls []) (sym none) tt;
-    summary = same_of _ _ (append-nil (sent_by old.sink ++ held old.lines.aggregator));
-  })
-
   -- a call that began with no error asked this
   record Called (old s : PackerSink P A) : Type 0 where
     asked : List Sending
@@ -62,32 +46,23 @@ module _ {P A : Type 0} (kind : P → WriterKind) (history : P → PacketHistory
       record {
         asked = l.asked;
         writes = l.writes;
-        packs = record {
-          lines = l.packs.lines;
-          keeps = record { same_kind = l.packs.keeps.same_kind; same_format = l.packs.keeps.same_format };
-          sends = l.packs.sends;
-        };
+        packs = record { lines = l.packs.lines; sends = l.packs.sends };
       }
 
   -- a call that took the error
   without_error : (old s r : PackerSink P A) (asked : List Sending) → r ≡ record s { refused = None } → SinkPacks kind history old s asked
       → SinkPacks kind history old r asked
-  without_error old s r asked same packs = subst (λ x. SinkPacks kind history old x asked) (sym same) (record {
-    lines = packs.lines;
-    keeps = record { same_kind = packs.keeps.same_kind; same_format = packs.keeps.same_format };
-    sends = packs.sends;
-  })
+  without_error old s r asked same packs = subst (λ x. SinkPacks kind history old x asked) (sym same)
+      (record { lines = packs.lines; sends = packs.sends })
 
   -- after the packer was flushed
   then_flushed : (old s r : PackerSink P A) (asked : List Sending) (result : Result (Unit {0}) SinkError) → SinkPacks kind history old s asked
-      → r ≡ record s { packing = r.packing } → KeepsKindAndFormat kind s.packing r.packing
-      → MovesPacker (kind s.packing.packer.writer) s.packing.packer.format (packed_state history s.packing) (flushed result) (packed_state history r.packing)
+      → r ≡ record s { packing = r.packing } → Packs kind history (view_of s.packing) (flushed result) (view_of r.packing)
       → SinkPacks kind history old r (asked ++ flushed result ∷ [])
-  then_flushed old s r asked result packs same keeps send =
+  then_flushed old s r asked result packs same send =
       packs_joined kind history old s r asked (flushed result ∷ []) packs (record {
         lines = ap (λ (x : PackerSink P A). lines_by x) same ∙ sym (append-nil (lines_by s));
-        keeps = keeps;
-        sends = (packed_state history r.packing, send, refl);
+        sends = (view_of r.packing, send, refl);
       })
 
   module _ (old new : PackedSums P A) (b s : PackerSink P A) (began : b ≡ record old.sink { refused = None }) (leads : LeadsSink kind history b s) where
@@ -103,8 +78,9 @@ module _ {P A : Type 0} (kind : P → WriterKind) (history : P → PacketHistory
     -- A line was added.
     pub added : (line : List ℕ) (n : ℕ) (said : Sample) → LineSays line said → refused_count s.refused ≡ refused_count b.refused
         → IsSummary ((sent_by b ++ held old.lines.aggregator) ++ said ∷ []) (sent_by s ++ held new.lines.aggregator) → new.sink ≡ s
-        → SumsTurn kind history (Some line) old (step.Hand, reply.Handed (Ok n)) new
-    added line n said says count sum same = record {
+        → n ≡ length line → SumsCall kind history old (wrote line (Ok n)) new
+    added line n said says count sum same whole = record {
+      whole = (whole, tt);
       asked = begun.asked;
       asks = subst (λ o. WritesLines begun.asked o) (none_refused s.refused (count ∙ none_before)) begun.writes;
       packs = subst (λ x. SinkPacks kind history old.sink x begun.asked) (sym same) begun.packs;
@@ -131,15 +107,16 @@ module _ {P A : Type 0} (kind : P → WriterKind) (history : P → PacketHistory
           (subst (λ xs. IsSummary (xs ++ held old.lines.aggregator) (sent_by s ++ held new.lines.aggregator)) sent_before sum))
 
       -- A line was not added.
-      pub not_added : (hand : Option (List ℕ)) → IsSummary (sent_by b ++ held old.lines.aggregator) (sent_by s ++ held new.lines.aggregator)
-          → SumsTurn kind history hand old (step.Hand, reply.Handed (Err e)) new
-      not_added hand sum =
-          record { asked = begun.asked; asks = asks_failed; packs = packs_failed; said = []; says = tt; summary = sum_failed sum }
+      pub not_added : (line : List ℕ) → IsSummary (sent_by b ++ held old.lines.aggregator) (sent_by s ++ held new.lines.aggregator)
+          → SumsCall kind history old (wrote line (Err e)) new
+      not_added line sum =
+          record { whole = tt; asked = begun.asked; asks = asks_failed; packs = packs_failed; said = []; says = tt; summary = sum_failed sum }
 
       -- A flush failed before the packer was flushed.
-      pub not_flushed : (hand : Option (List ℕ)) → sent_by s ++ held new.lines.aggregator ≡ sent_by b ++ held old.lines.aggregator
-          → SumsTurn kind history hand old (step.Flush, reply.Flushed (Err e)) new
-      not_flushed hand same = record {
+      pub not_flushed : sent_by s ++ held new.lines.aggregator ≡ sent_by b ++ held old.lines.aggregator
+          → SumsCall kind history old (flushed (Err e)) new
+      not_flushed same = record {
+        whole = tt;
         asked = begun.asked;
         asks = inl asks_failed;
         packs = packs_failed;
@@ -148,22 +125,20 @@ module _ {P A : Type 0} (kind : P → WriterKind) (history : P → PacketHistory
         summary = sum_failed (same_of _ _ (sym same));
       }
 
-    asks_flush : (result : Result (Unit {0}) SinkError) (asked : List Sending) → WritesThen asked (flushed result)
-        → Asks {A = A} (step.Flush, reply.Flushed result) asked
+    asks_flush : (result : Result (Unit {0}) SinkError) (asked : List Sending) → WritesThen asked (flushed result) → AsksFlush result asked
     asks_flush (Ok done) asked then = then
     asks_flush (Err e) asked then = inr then
 
     -- The packer was flushed, or its flush failed.
-    pub flushed_both : (hand : Option (List ℕ)) (result : Result (Unit {0}) SinkError) → refused_count s.refused ≡ refused_count b.refused
+    pub flushed_both : (result : Result (Unit {0}) SinkError) → refused_count s.refused ≡ refused_count b.refused
         → sent_by s ++ held new.lines.aggregator ≡ sent_by b ++ held old.lines.aggregator → new.sink ≡ record s { packing = new.sink.packing }
-        → KeepsKindAndFormat kind s.packing new.sink.packing
-        → MovesPacker (kind s.packing.packer.writer) s.packing.packer.format (packed_state history s.packing) (flushed result) (packed_state history new.sink.packing)
-        → SumsTurn kind history hand old (step.Flush, reply.Flushed result) new
-    flushed_both hand result count same only keeps send = record {
+        → Packs kind history (view_of s.packing) (flushed result) (view_of new.sink.packing) → SumsCall kind history old (flushed result) new
+    flushed_both result count same only send = record {
+      whole = tt;
       asked = begun.asked ++ flushed result ∷ [];
       asks = asks_flush result (begun.asked ++ flushed result ∷ [])
           (begun.asked, subst (λ o. WritesLines begun.asked o) (none_refused s.refused (count ∙ none_before)) begun.writes, refl);
-      packs = then_flushed old.sink s new.sink begun.asked result begun.packs only keeps send;
+      packs = then_flushed old.sink s new.sink begun.asked result begun.packs only send;
       said = [];
       says = tt;
       summary = same_of _ _ (append-nil (sent_by old.sink ++ held old.lines.aggregator) ∙ ap (λ xs. xs ++ held old.lines.aggregator) (sym sent_before) ∙ sym same

@@ -10,7 +10,8 @@ use Rattle.cadence_aggregating.specs.Printed.{line_saying}
 use Rattle.cadence_aggregating.specs.Says.{LineSays, MetricSays}
 use Rattle.cadence_text.specs.Line.{line_of}
 use Rattle.cadence_text.specs.Metric.{Metric}
-use Rattle.cadence_schedule.proofs.summed.PackedLines.{AreFilled}
+use Rattle.cadence_schedule.proofs.packets.PackedLines.{AreFilled}
+use Rattle.cadence_schedule.proofs.headline.QueuedRun.{texts_filled}
 
 abbrev AllFilled : List (List ℕ) → Type 0
 AllFilled lines = AllByRecursion (λ (line : List ℕ). line ≢ []) lines
@@ -48,10 +49,6 @@ module _ (law : (metric : Metric) → 0 < length (line_of metric)) where
       ((λ none. some (says.0 ∙ none)), sent_filled lines said zip filled)
   sent_filled (line ∷ lines) (other l ∷ said) (says, zip) (some, filled) =
       ((λ none. some (says.0 ∙ none)), sent_filled lines said zip filled)
-
-  texts_filled : (kept : List (List ℕ × ℕ)) → AllFilled (texts_in kept) → AreFilled kept
-  texts_filled [] h = tt
-  texts_filled (k ∷ kept) (h, hs) = (h, texts_filled kept hs)
 
   pub kept_filled : (accepted : List (List ℕ)) (kept : List (List ℕ × ℕ)) (held : List Sample) → AllFilled accepted → Summarizes accepted (texts_in kept) held
       → AreFilled kept

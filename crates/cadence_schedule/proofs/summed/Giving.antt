@@ -6,35 +6,33 @@ use Rattle.cadence_aggregating.specs.declared.note.Note.{Note}
 use Rattle.cadence_errors.specs.declared.SinkError.{SinkError}
 use Rattle.cadence_flow.specs.Writer.{PacketHistory, WriterKind}
 use Rattle.cadence_schedule.specs.Leads.{LeadsSink, WritesAfter, lines_by}
-use Rattle.cadence_schedule.specs.PackedRuns.{KeepsKindAndFormat, MovesPacker, packed_state}
+use Rattle.cadence_schedule.specs.PackedRuns.{Packs, view_of}
 use Rattle.cadence_schedule.specs.Sendings.{wrote}
 use Rattle.cadence_schedule.specs.declared.packer_sink.PackerSink.{PackerSink}
 
-module _ {P A : Type 0} (kind : P → WriterKind) (history : P → PacketHistory) (old new : PackerSink P A) (keeps : KeepsKindAndFormat kind old.packing new.packing) where
+module _ {P A : Type 0} (kind : P → WriterKind) (history : P → PacketHistory) (old new : PackerSink P A) where
   -- A line was kept.
   pub line_kept : (text : List ℕ) (n : ℕ) (note : Note) → old.refused ≡ None → new.refused ≡ None
-      → MovesPacker (kind old.packing.packer.writer) old.packing.packer.format (packed_state history old.packing) (wrote text (Ok n)) (packed_state history new.packing)
+      → Packs kind history (view_of old.packing) (wrote text (Ok n)) (view_of new.packing)
       → new.notes.items ≡ old.notes.items ++ note ∷ [] → text ≡ line_of_note note → LeadsSink kind history old new
   line_kept text n note none still send notes text_is = record {
     asked = wrote text (Ok n) ∷ [];
     writes = subst (λ o. WritesAfter o (wrote text (Ok n) ∷ []) new.refused) (sym none) still;
     packs = record {
       lines = ap (map line_of_note) notes ∙ map-append line_of_note old.notes.items (note ∷ []) ∙ ap (λ t. lines_by old ++ t ∷ []) (sym text_is);
-      keeps = keeps;
-      sends = (packed_state history new.packing, send, refl);
+      sends = (view_of new.packing, send, refl);
     };
   }
 
   -- A line was refused.
   pub line_refused : (text : List ℕ) (e : SinkError) → old.refused ≡ None → new.refused ≡ Some e
-      → MovesPacker (kind old.packing.packer.writer) old.packing.packer.format (packed_state history old.packing) (wrote text (Err e)) (packed_state history new.packing)
+      → Packs kind history (view_of old.packing) (wrote text (Err e)) (view_of new.packing)
       → new.notes.items ≡ old.notes.items → LeadsSink kind history old new
   line_refused text e none some send notes = record {
     asked = wrote text (Err e) ∷ [];
     writes = subst (λ o. WritesAfter o (wrote text (Err e) ∷ []) new.refused) (sym none) (refl, some);
     packs = record {
       lines = ap (map line_of_note) notes ∙ sym (append-nil (lines_by old));
-      keeps = keeps;
-      sends = (packed_state history new.packing, send, refl);
+      sends = (view_of new.packing, send, refl);
     };
   }

@@ -1,4 +1,4 @@
-use Rattle.std.proofs.Common.{map, refl, rules, string_bytes}
+use Rattle.std.proofs.Common.{map, refl, string_bytes}
 use Rattle.cadence_queue.specs.Queue.{at_capacity, drops_for_room}
 use Rattle.cadence_text.specs.Representable.{IsRepresentable}
 use Rattle.cadence_settings.specs.CallData.{line_of_data, metric_of_data}
@@ -6,8 +6,8 @@ use Rattle.cadence_schedule.proofs.history.CallReplies.{call_fails}
 use Rattle.cadence_schedule.proofs.history.KeptMetrics.{all_of_option}
 use Rattle.cadence_schedule.proofs.running.Running.call.Goals as goal
 
-pub returns-in-Err-clause-turn : goal.returns-in-Err-clause-turn
-returns-in-Err-clause-turn g c =
+pub returns-in-Err-clause-queue : goal.returns-in-Err-clause-queue
+returns-in-Err-clause-queue g c =
     let old = c.args.self.now in
     record {
       moves = (
@@ -16,12 +16,8 @@ returns-in-Err-clause-turn g c =
             (drops_for_room old.queue.policy (map string_bytes old.queue.waiting)) c.in-Err.error c.in-Err.ensures.refused,
         refl,
       );
-      same_kind = refl;
-      same_format = refl;
       same_queue = refl;
       same_policy = refl;
-      cut_length = search rules;
-      cut_room = search rules;
     }
 
 pub returns-in-Ok-None-clause-representable : goal.returns-in-Ok-None-clause-representable

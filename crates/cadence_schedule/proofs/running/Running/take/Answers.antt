@@ -1,15 +1,13 @@
-use Rattle.std.proofs.Common.{◌≡◌, arith, ap, refl, map, None, Some}
+use Rattle.std.proofs.Common.{◌≡◌, arith, ap, map, None, Some}
 use Rattle.std.specs.Prelude.{string_bytes}
 use Rattle.std.specs.Option.{option_map}
 use Rattle.std.proofs.lemmas.Grind.{common_steps}
-use Rattle.cadence_schedule.specs.Running.{run_state}
+use Rattle.cadence_schedule.specs.Running.{queue_state}
 use Rattle.cadence_schedule.proofs.running.Running.take.Goals as goal
 
-pub returns-in-Text : goal.returns-in-Text
-returns-in-Text g c = λ line_of.
+pub returns-in-Text-clause-queue : goal.returns-in-Text-clause-queue
+returns-in-Text-clause-queue g c = λ line_of.
     let none : c.args.self.now.in_hand ≡ None = grind (arith, common_steps) in
-    let q = c.args.self.now.queue in
-    let r = c.take.new.self in
     let queues = c.in-Text.ensures.taken in
     record {
       moves = (
@@ -19,23 +17,16 @@ returns-in-Text g c = λ line_of.
           map string_bytes c.take.new.self.waiting,
           ap (map string_bytes) queues.0,
           omega arith,
-          (λ i. record (run_state g.P.PacketWriter.history c.args.self.now) {
+          (λ i. record (queue_state c.args.self.now) {
             waiting = map string_bytes c.take.new.self.waiting;
-            drained =
-                (queues.1 i).drained;
-            stopped =
-                (queues.1 i).stopped;
-            submitted =
-                (queues.1 i).submitted;
+            drained = (queues.1 i).drained;
+            stopped = (queues.1 i).stopped;
+            submitted = (queues.1 i).submitted;
             dropped = (queues.1 i).dropped;
             in_hand = Some (string_bytes c.in-Text.line);
           }),
         ),
       );
-      same_kind = refl;
-      same_format = refl;
       same_queue = ap (λ k. k.capacity) queues.1;
       same_policy = ap (λ k. k.policy) queues.1;
-      cut_length = omega arith;
-      cut_room = omega arith;
     }

@@ -5,16 +5,38 @@ use Rattle.std.proofs.lemmas.List.{append-nil, append_assoc, length-append}
 use Rattle.cadence_flow.proofs.Histories.{Extends-trans}
 use Rattle.cadence_flow.specs.Frame.{Format, frame_of, held_packet, taken_stream}
 use Rattle.cadence_flow.specs.Packer.{whole_text}
-use Rattle.cadence_flow.specs.Writer.{Extends, WriterKind}
+use Rattle.cadence_flow.specs.Writer.{Extends, PacketHistory, WriterKind}
 use Rattle.cadence_schedule.proofs.packets.CutSoFar.{IsCutSoFar, marks_flush}
 use Rattle.cadence_schedule.proofs.packets.CutLengths.{CutSince, has_last}
 use Rattle.cadence_schedule.proofs.packets.PackerSteps.{cut_refused, cut_written, refused, written}
-use Rattle.cadence_schedule.specs.PackedRuns.{PackedState, AllMovePacker, packer_in_state}
-use Rattle.cadence_schedule.specs.Sendings.{Sending, wrote, flushed, counts_of_kept, marks_from, refusals_from, texts_in}
+use Rattle.cadence_schedule.specs.PackedRuns.{PackedState, PackingView, Packs, AllMovePacker, packed_state, packer_in_state}
+use Rattle.cadence_schedule.specs.Sendings.{Sending, AllLead, wrote, flushed, counts_of_kept, marks_from, refusals_from, texts_in}
 
 -- Each kept line is not empty.
 abbrev pub AreFilled : List (List ℕ × ℕ) → Type 0
 AreFilled kept = AllByRecursion (λ (k : List ℕ × ℕ). k.0 ≢ []) kept
+
+module _ {P : Type 0} (kind : P → WriterKind) (history : P → PacketHistory) where
+  -- What a packer was given leads from one state to the other, with the kind and the format of the first.
+  pub record Moved (a b : PackingView P) (xs : List Sending) : Type 0 where
+    pub same_kind : kind b.packer.writer ≡ kind a.packer.writer
+    pub same_format : b.packer.format ≡ a.packer.format
+    pub all : AllMovePacker (kind a.packer.writer) a.packer.format (packed_state history a) xs (packed_state history b)
+
+  pub moved : (xs : List Sending) (a b : PackingView P) → AllLead (Packs kind history) a xs b → Moved a b xs
+  moved [] a b same = subst (λ x. Moved a x []) (sym same) (record { same_kind = refl; same_format = refl; all = refl })
+  moved (x ∷ xs) a b (mid, one, rest) =
+      let m = moved xs mid b rest in
+      record {
+        same_kind = m.same_kind ∙ one.same_kind;
+        same_format = m.same_format ∙ one.same_format;
+        all = (
+          packed_state history mid,
+          one.moves,
+          subst (λ f. AllMovePacker (kind a.packer.writer) f (packed_state history mid) xs (packed_state history b)) one.same_format
+              (subst (λ k. AllMovePacker k mid.packer.format (packed_state history mid) xs (packed_state history b)) one.same_kind m.all),
+        );
+      }
 
 module _ (kind : WriterKind) (format : Format) (reports : kind.reports ≡ true) where
   -- The text of the packer grows by what was taken of the kept lines.

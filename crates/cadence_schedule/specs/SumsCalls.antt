@@ -1,0 +1,25 @@
+-- What a call of the sums before a packer does: to what they hold, and to the packer.
+use Rattle.std.specs.Prelude.{◌≡◌, List, [], ◌∷◌, ◌++◌, length}
+use Rattle.std.specs.List.{AllByRecursion, AllZip}
+use Rattle.cadence_aggregate.specs.Aggregate.{held}
+use Rattle.cadence_aggregate.specs.Server.{Sample, IsSummary}
+use Rattle.cadence_aggregating.specs.Says.{LineSays}
+use Rattle.cadence_flow.specs.Writer.{PacketHistory, WriterKind}
+use Rattle.cadence_schedule.specs.Asked.{AsksCall}
+use Rattle.cadence_schedule.specs.Leads.{SinkPacks, sent_by}
+use Rattle.cadence_schedule.specs.Sendings.{Sending, counts_of_kept, texts_in}
+use Rattle.cadence_schedule.specs.declared.packed_sums.PackedSums.{PackedSums}
+
+-- The call leads the sums and the packer behind them from the old state to the new one.
+pub record SumsCall {P A : Type 0} (kind : P → WriterKind) (history : P → PacketHistory) (old : PackedSums P A) (call : Sending) (new : PackedSums P A) : Type 0 where
+  -- A line that was taken was taken whole.
+  pub whole : AllByRecursion (λ k. k.1 ≡ length k.0) (counts_of_kept (call ∷ []))
+  -- what the packer was asked
+  pub asked : List Sending
+  pub asks : AsksCall call asked
+  pub packs : SinkPacks kind history old.sink new.sink asked
+  -- what the accepted line says, if there is one
+  pub said : List Sample
+  pub says : AllZip LineSays (texts_in (counts_of_kept (call ∷ []))) said
+  -- What was sent and what is held are a summary of what they were before, with what was said.
+  pub summary : IsSummary ((sent_by old.sink ++ held old.lines.aggregator) ++ said) (sent_by new.sink ++ held new.lines.aggregator)
