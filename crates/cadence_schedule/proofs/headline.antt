@@ -1,4 +1,4 @@
--- The headline: what holds after each turn of a run, and what a whole run shows.
+-- The headline: what holds after each turn of a run, and what a whole run shows, whatever takes the lines handed on.
 pub mod FinishedRun
 pub mod PackedRun
 pub mod Queued

@@ -1,8 +1,8 @@
--- What a packer was given, and what it answered.
+-- What a packer, or sums before one, was given, and what was answered.
 use Rattle.std.specs.Prelude.{◌≡◌, ℕ, ◌+◌, List, [], ◌∷◌, Result, Ok, Err, map}
 use Rattle.cadence_errors.specs.declared.SinkError.{SinkError}
 
--- A line was given to the packer, or the packer was flushed, with this answer.
+-- A line was given, or a flush was asked for, with this answer.
 pub data Sending : Type 0 where
   wrote : List ℕ → Result ℕ SinkError → Sending
   flushed : Result (Unit {0}) SinkError → Sending

@@ -1,5 +1,5 @@
-//! The proved runs of a schedule: a list of steps of a client, a queue, a worker and a packer, with the headline theorem
-//! as the contract of the run, and the same with an aggregator before the packer.
+//! The proved run of a schedule: a list of steps of a client, a queue, a worker and a packer. Its contract is the
+//! headline theorem. With an aggregator before the packer the same run has a contract of its own.
 //!
 //! - `steps`: the steps of a schedule, and the replies to them
 //! - `run`: the run of a schedule, whose contract is the headline

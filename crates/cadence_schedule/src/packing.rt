@@ -57,8 +57,7 @@ impl<P: PacketWriter, A: Allocator> Packing<P, A> {
     // Writes a line, and counts it if it was kept. The only error is that there is no memory to count it, and then
     // nothing was written.
     pub(crate) fn write(&mut self, line: &str) -> Result<Result<usize, SinkError>, AllocError>
-        ensures packs { IfOk result (λ answer.
-            Packs P.kind P.history
+        ensures packs { IfOk result (λ answer. Packs P.kind P.history
             (view_of self.old) (wrote line.now answer) (view_of self.new)) }
         ensures unchanged { OnErr result (view_of self.new ≡ view_of self.old) }
     {

@@ -2,8 +2,6 @@
 use Rattle.std.proofs.Common.{◌≡◌, ◌≢◌, ℕ, zero, suc, zero-le, ◌≤◌, List, [], ◌∷◌, ◌++◌, Option, Some, None, Ok, Err, length, drop, refl}
 use Rattle.std.proofs.Common.{sym, ap, ◌∙◌, arith, subst}
 use Rattle.std.specs.Prelude.{slice_get}
-use Rattle.std.specs.Option.{option_to_list}
-use Rattle.std.specs.List.{AllByRecursion}
 use Rattle.std.proofs.lemmas.List.{append-nil, length-append, length-map}
 use Rattle.cadence_errors.specs.declared.SinkError.{SinkError}
 use Rattle.cadence_settings.specs.declared.call.Call.{Call}
@@ -14,14 +12,7 @@ use Rattle.cadence_schedule.specs.RunHistory.{outcome_by}
 use Rattle.cadence_schedule.specs.RunHistory.{accepted, accepted_by_turn, undropped_lines, kept, kept_counts}
 use Rattle.cadence_schedule.proofs.history.OneTurnMore.{accepted-push, outcomes-push, with_answers-longer, with_answers-some}
 use Rattle.cadence_schedule.proofs.history.OneTurnMore.{with_answers-none, length-with_answers}
-use Rattle.cadence_value.proofs.lists.SplitTexts.{each_append}
-use Rattle.cadence_schedule.proofs.history.KeptMetrics.{each_undropped}
 use Rattle.cadence_schedule.proofs.history.UndroppedLines.{exits-push, out, length-out, undropped_lines_is, undropped_lines-push}
-
-each_get : {X : Type 0} (P : X → Type 0) (xs : List X) (i : ℕ) (x : X) → AllByRecursion P xs → slice_get xs i ≡ Some x → P x
-each_get P [] i x h e = absurd cc
-each_get P (y ∷ xs) zero x (h, hs) e = let same : y ≡ x = cc in subst P same h
-each_get P (y ∷ xs) (suc i) x (h, hs) e = each_get P xs i x hs e
 
 module _ {A : Type 0} (line_of : Call A → Option (List ℕ)) where
   -- A turn that hands on no line does not change the kept lines.
@@ -85,22 +76,3 @@ module _ {A : Type 0} (line_of : Call A → Option (List ℕ)) where
         length-with_answers (undropped_lines line_of h) (outcomes h),
         length-outcomes h,
       )
-
-  module _ (filled : (call : Call A) (line : List ℕ) → line_of call ≡ Some line → line ≢ []) where
-    by_option : (o : Option (List ℕ)) → ((line : List ℕ) → o ≡ Some line → line ≢ []) → AllByRecursion (λ l. l ≢ []) (option_to_list o)
-    by_option None some = tt
-    by_option (Some line) some = (some line refl, tt)
-
-    by_turn : (t : Turn A) → AllByRecursion (λ l. l ≢ []) (accepted_by_turn line_of t)
-    by_turn (step.Call call, reply.Called (Ok n)) = by_option (line_of call) (filled call)
-    by_turn (step.Call call, reply.CallDropped n m) = by_option (line_of call) (filled call)
-    by_turn _ = tt
-
-    accepted_each : (h : List (Turn A)) → AllByRecursion (λ l. l ≢ []) (accepted line_of h)
-    accepted_each [] = tt
-    accepted_each (t ∷ h) = each_append (λ l. l ≢ []) (accepted_by_turn line_of t) (accepted line_of h) (by_turn t) (accepted_each h)
-
-    -- No undropped line is empty.
-    pub undropped_lines_filled : (line : List ℕ) (h : List (Turn A)) (i : ℕ) → slice_get (undropped_lines line_of h) i ≡ Some line → line ≢ []
-    undropped_lines_filled line h i e =
-        each_get (λ l. l ≢ []) (undropped_lines line_of h) i line (each_undropped (λ l. l ≢ []) (accepted line_of h) (exits h) (accepted_each h)) e

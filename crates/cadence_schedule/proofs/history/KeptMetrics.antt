@@ -64,7 +64,7 @@ module _ {X : Type 0} (P : X → Type 0) where
   each_answered (x ∷ xs) (None ∷ answers) (h, hs) = each_answered xs answers hs
 
   -- What is true of each element is true of each one that was not dropped.
-  pub each_undropped : (xs : List X) (exits : List Exit) → AllByRecursion P xs → AllByRecursion P (without_dropped xs exits)
+  each_undropped : (xs : List X) (exits : List Exit) → AllByRecursion P xs → AllByRecursion P (without_dropped xs exits)
   each_undropped [] exits h = tt
   each_undropped (x ∷ xs) [] h = h
   each_undropped (x ∷ xs) (by_take ∷ exits) (h, hs) = (h, each_undropped xs exits hs)
