@@ -169,9 +169,10 @@ typedef struct cadence_tag {
 /* What each line has: the bytes that its name begins with (a prefix and its dot, as cadence_prefix_text makes them),
  * the text of its default tags (as cadence_tags_text makes it), and its default container if `contained` is set. If
  * `strict` is set, each call with a ':', a ',', a '|' or a newline in the key, in the key or the text of a tag, or in
- * the container is refused, also if its texts are `known`. The texts of the settings themselves are tested when they
- * are made: cadence_prefix_text and cadence_tags_text test theirs, and cadence_test_text a container. So no text can
- * make, change or split a metric. The line of cadence_line is not tested. */
+ * the container is refused, also if its texts are `known`. The text of a tag with a key may have a ':', because the
+ * first one ends the key. The texts of the settings themselves are tested when they are made: cadence_prefix_text and
+ * cadence_tags_text test theirs, and cadence_test_text a container. So no text can make, change or split a metric. The
+ * line of cadence_line is not tested. */
 typedef struct cadence_settings {
     const uint8_t *prefix;
     size_t prefix_len;
@@ -438,7 +439,8 @@ uint32_t cadence_prefix_text(const uint8_t *prefix, size_t prefix_len, bool stri
                              size_t *length);
 
 /* Writes the text of default tags into `out`, in the form in which a line has them, and sets *length to its length in
- * bytes. If `strict` is set, tags with a separator are refused. It returns what cadence_prefix_text returns. */
+ * bytes. If `strict` is set, tags with a separator are refused, other than a ':' after a key. It returns what
+ * cadence_prefix_text returns. */
 uint32_t cadence_tags_text(const cadence_tag *tags, size_t tags_len, bool strict, uint8_t *out, size_t out_len,
                            size_t *length);
 

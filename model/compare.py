@@ -33,16 +33,16 @@ PLAIN_VALUES = [
 ]
 PLAIN_OPTIONS = [
     '', '', '', ' tag a b', ' tagvalue t', ' tag \\e \\e', ' container id', ' container \\e', ' time 7', ' time 0', ' rate 5/1',
-    ' rate -1/0', ' tag a: b', ' tag a b,c', ' tagvalue \\n', ' container x|y', ' container , container id',
+    ' rate -1/0', ' tag a: b', ' tag a b:c', ' tag a b,c', ' tagvalue \\n', ' container x|y', ' container , container id',
     ' tag k v tagvalue w container x time 9 rate 25/2', ' time 1 time 2',
 ]
 PLAIN_SETTINGS = [
-    'prefix p', 'prefix a..', 'prefix ...', 'tag h w', 'tagvalue prod', 'container def', 'capacity 0', 'capacity 4', 'capacity 6',
+    'prefix p', 'prefix a..', 'prefix ...', 'tag h w', 'tag u h://x', 'tagvalue prod', 'container def', 'capacity 0', 'capacity 4', 'capacity 6',
     'capacity 9', 'capacity 16', 'capacity 24', 'capacity 40', 'ending \\e', 'ending ab', 'ending \\n\\n', 'queue 0', 'queue 1',
     'queue 2', 'queue 3', 'policy drop', 'policy drop', 'policy refuse', 'writer refuse', 'writer whole refuse whole refuse',
     'writer short:3', 'writer short:0 whole short:5 refuse', 'writer short:1 refuse short:2',
 ]
-HOSTILE_SETTINGS = ['prefix a:b', 'tag a, b', 'tag a b|c', 'tagvalue :', 'container x\\ny']
+HOSTILE_SETTINGS = ['prefix a:b', 'tag a: b', 'tag a, b', 'tag a b|c', 'tagvalue :', 'container x\\ny']
 
 
 def summed_script(seed):

@@ -159,7 +159,8 @@ FAULTS = (
     'a line that may set a gauge overtakes those that are held', 'what a refused flush left has no turn',
     'members go first', 'a short count is ignored', 'what a short count leaves is lost', 'a default tag is left out',
     'a default tag stands last', 'the default container counts', 'a duration is rounded', 'a duration past 64 bits wraps',
-    'a strict script takes a colon', 'a separator is refused before a value', 'a strict script has any settings',
+    'a strict script takes a colon', 'a colon after a key is refused', 'a separator is refused before a value',
+    'a strict script has any settings',
 )
 
 
@@ -202,10 +203,14 @@ def values_of(kind, word, fault):
     return ':'.join(map(text_of_item, items.split(',') if items else []))
 
 
-def has_separator(texts, fault=None):
-    """Returns whether one of the texts has a character that separates the parts of a line or of a packet."""
+def has_separator(texts, tags, fault=None):
+    """Returns whether a text, or a part of a tag, has a character that separates the parts of a line or of a packet. The
+    first colon of a tag ends its key, so the text behind a key may have colons."""
+    texts = texts + [tag[0] for tag in tags]
     separators = ',|\n' if fault == 'a strict script takes a colon' else ':,|\n'
-    return any(separator in text for text in texts for separator in separators)
+    after_a_key = ':,|\n' if fault == 'a colon after a key is refused' else ',|\n'
+    return (any(separator in text for text in texts for separator in separators)
+            or any(separator in text for _, *behind in tags for text in behind for separator in after_a_key))
 
 
 class Client:
@@ -226,8 +231,8 @@ class Client:
 
     def is_usable(self):
         """Returns whether no setting has a separator, if the script is strict."""
-        texts = [self.prefix, *sum(self.tags, []), self.container or '']
-        return not self.is_strict or not has_separator(texts) or self.fault == 'a strict script has any settings'
+        texts = [self.prefix, self.container or '']
+        return not self.is_strict or not has_separator(texts, self.tags) or self.fault == 'a strict script has any settings'
 
     def line_of(self, words):
         """Returns the line of a call. A value that doesn't fit is refused before a separator."""
@@ -237,7 +242,6 @@ class Client:
             name, text = options.pop(0), options.pop(0)
             if name in ('tag', 'tagvalue'):
                 tags.append([text_of(text), text_of(options.pop(0))] if name == 'tag' else [text_of(text)])
-                texts += tags[-1]
             elif name == 'container':
                 container = text_of(text)
                 texts.append(container)
@@ -246,15 +250,15 @@ class Client:
             else:
                 time = '|T' + text
         if self.fault == 'a separator is refused before a value':
-            self.refuse_separators(texts)
+            self.refuse_separators(texts, tags)
         values = values_of(kind, value, self.fault)
-        self.refuse_separators(texts)
+        self.refuse_separators(texts, tags)
         tags, container = self.with_defaults(tags, container)
         return ''.join([self.prefix.rstrip('.') + '.' if self.prefix else '', texts[0], ':', values, '|', kind, rate,
                         '|#' + ','.join(map(':'.join, tags)) if tags else '', '' if container is None else '|c:' + container, time])
 
-    def refuse_separators(self, texts):
-        if self.is_strict and has_separator(texts, self.fault):
+    def refuse_separators(self, texts, tags):
+        if self.is_strict and has_separator(texts, tags, self.fault):
             raise Refused('separator in a text')
 
     def with_defaults(self, tags, container):

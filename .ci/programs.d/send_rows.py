@@ -30,7 +30,7 @@ SENT_TEXTS = [
 ]
 # Texts of which no line is sent, each with its message.
 UNSENT = [
-    (b'c a:b 1', WANTS_NAME), (b'c a 1 b:c:d', WANTS_TAG), (b'c a 1  b  c,d', WANTS_TAG), (b'  c  1  ', WANTS_WORDS),
+    (b'c a:b 1', WANTS_NAME), (b'c a 1 b:c|d', WANTS_TAG), (b'c a 1  b  c,d', WANTS_TAG), (b'  c  1  ', WANTS_WORDS),
     *[(text, WANTS_VALUES[text.split()[0].decode()]) for text in [
         b'c a 1,2', b's a 9223372036854775808', b'm a -1', b'ms a 1.5', b'c a 1.5', b'c a 15e-1',
         b'm a -1e3', b'c a 2e19', b'g a 1e', b'g a .', b'g a 1e39', b'g a nan', b'c a 1s', b'h a .5ms', b'h a 1e3ns', b'h a +1s',
@@ -62,13 +62,15 @@ SEND_CASES = [
     ('strict words', ['--print', '--strict', *ONE], {'DD_TAGS': 'k:v,w'}, b'', 0, report_line(b'visits:1|c|#k:v,w,page:home\n'), b''),
     *[(f'the strict words {words}', ['--strict', '--print', *words], {}, b'', 2, b'', error_lines(why)) for words, why in [
         (['c', 'a:b', '1'], WANTS_NAME), (['c', 'a,b', '1'], WANTS_NAME), (['c', 'a|b', '1'], WANTS_NAME),
-        (['c', 'a\nb', '1'], WANTS_NAME), (['c', 'a', '1', 'k:v:w'], WANTS_TAG), (['c', 'a', '1', 'k,v'], WANTS_TAG),
+        (['c', 'a\nb', '1'], WANTS_NAME), (['c', 'a', '1', 'k,v'], WANTS_TAG),
         (['c', 'a', '1', 'k:v|c'], WANTS_TAG), (['c', 'a', '1', 'k\nv:w'], WANTS_TAG)]],
-    ('strict lines', ['--print', '--strict'], {}, b'c a 1\nc b:c 1\nc d 1 k:v:w\nc e 1\n', 2, report_line(b'a:1|c\ne:1|c\n'),
-     error_lines(b'line 2: ' + WANTS_NAME, b'line 3: ' + WANTS_TAG, b'2 of 4 lines: cannot read')),
-    *[(f'{name} is {text}, strict', ['--print', '--strict'], {name: text}, b'c a 1', 2, b'', error_lines(
-        b'--strict wants tags of the environment without a second colon, as in DD_TAGS=team:shop'))
-      for name, text in [('DD_TAGS', 'a:b:c'), ('DD_ENV', 'a:b'), ('DD_ENTITY_ID', ':')]],
+    ('strict lines', ['--print', '--strict'], {}, b'c a 1\nc b:c 1\nc d 1 k:v:w\nc e 1 k,v\n', 2, report_line(b'a:1|c\nd:1|c|#k:v:w\n'),
+     error_lines(b'line 2: ' + WANTS_NAME, b'line 4: ' + WANTS_TAG, b'2 of 4 lines: cannot read')),
+    *[(f'{name} is {text}, with {words}', ['--print', *words], {name: text}, b'c a 1', 0, report_line(b'a:1|c|#' + tag + b'\n'), b'')
+      for words in ([], ['--strict']) for name, text, tag in [
+          ('DD_TAGS', 'url:http://x', b'url:http://x'), ('DD_ENV', 'a:b', b'env:a:b'), ('DD_ENTITY_ID', ':', b'dd.internal.entity_id::')]],
+    *[(f'the tag {tag}, with {words}', ['--print', *words, 'c', 'a', '1', tag], {}, b'', 0, report_line(b'a:1|c|#%s\n' % tag.encode()), b'')
+      for words in ([], ['--strict']) for tag in ['url:http://x', 'image:nginx:1.25', 'ip:::1', 'k::']],
     ('each option', ['--print', *EACH, 'c', 'a', '1', 't'], {}, b'', 0, report_line(b'p.a:1|c|@0.5|#k:v,w,t|c:id|T7\n'), b''),
     ('options, and words that are none', [
         *'--to host:1 --capacity 9 --print --time 7 --rate 0.50 --flush-every 0 --container id'.split(), '--', 'c', '--help', '-1'],

@@ -34,7 +34,7 @@ WANTS_VALUES = {
     's': b'VALUE of s is a whole number and no name, as in `s users 42`',
     'd': b'VALUE of d is numbers, as in `d size 0.75,12`',
 }
-WANTS_TAG = b'TAG is K:V or V, and has no comma, bar or second colon, as in `c visits 1 page:home`'
+WANTS_TAG = b'TAG is K:V or V, and has no comma, bar or newline, as in `c visits 1 page:home`'
 WANTS_LENGTH = b'the line is longer than a datagram can be'
 WANTS_EVENT = b"wants event TITLE TEXT [TAG ..], as in `event Deploy 'version 2.1'`"
 WANTS_CHECK = b'wants check NAME STATUS [TAG ..], as in `check web ok`'
@@ -97,7 +97,7 @@ UNUSABLE = [
     *[(words, WANTS_CHECK) for words in (['check'], ['check', 'web'])],
     *[(['check', 'web', status], WANTS_STATUS) for status in ['OK', '4', '-1', '', '00', 'warn']],
     *[(['check', name, 'ok'], WANTS_NAME) for name in ['', 'a:b', 'a,b', 'a|b', 'a\nb']],
-    (['event', 'a', 'b', 'k:v:w'], WANTS_TAG),
+    (['event', 'a', 'b', 'k:v|w'], WANTS_TAG),
     (['check', 'a', 'ok', 'k,v'], WANTS_TAG),
     *[(['--host', host, *EVENT], b'--host %s: wants a name without colons, commas, bars and newlines, as in --host web-1' % host.encode())
       for host in ['', 'a:b', 'a,b', 'a|b', 'a\nb']],

@@ -242,13 +242,15 @@ static void order_of_a_line(void) {
     }
 }
 
-/* Returns whether strict settings refuse this text in each place of a call, known or not, and as texts of their own. */
+/* Returns whether strict settings refuse this text in each place of a call but after the key of a tag, known or not, and
+ * as texts of their own. After the key of a tag they must refuse it if it has a separator other than a colon. */
 static bool refuses(const char *text) {
     static uint8_t packet[256], room[64];
     cadence_handle handle = opened(64, CADENCE_REFUSE);
     cadence_settings strict;
-    const cadence_tag tags[] = { cadence_tag_of("k", "v"), cadence_tag_of(text, "v"), cadence_tag_of("k", text),
-                                 cadence_tag_of(NULL, text) };
+    const cadence_tag tags[] = { cadence_tag_of("k", "v"), cadence_tag_of(text, "v"), cadence_tag_of(NULL, text) };
+    const cadence_tag valued = cadence_tag_of("k", text);
+    const uint32_t after_a_key = strpbrk(text, ",|\n") == NULL ? CADENCE_OK : CADENCE_SEPARATOR;
     size_t length;
     bool all = cadence_settings_make(&strict, "p", NULL, 0, NULL, true, room, sizeof room, &length) == CADENCE_OK;
     for (int known = 0; known <= 1; known++) {
@@ -257,19 +259,25 @@ static bool refuses(const char *text) {
         all = all && cadence_count(&handle, &strict, text, 1, &options) == CADENCE_SEPARATOR;
         all = all && cadence_parts(&handle, &strict, CADENCE_GAUGE, text, 25, 1, &options) == CADENCE_SEPARATOR;
         options.tags = tags;
-        for (options.tags_len = 2; options.tags_len <= 4; options.tags_len++)
+        for (options.tags_len = 2; options.tags_len <= 3; options.tags_len++)
             all = all && cadence_count(&handle, &strict, "c", 1, &options) == CADENCE_SEPARATOR;
         options.tags++;
-        for (options.tags_len = 1; options.tags_len <= 3; options.tags_len++)
+        for (options.tags_len = 1; options.tags_len <= 2; options.tags_len++)
             all = all && cadence_count(&handle, &strict, "c", 1, &options) == CADENCE_SEPARATOR;
+        options.tags = &valued, options.tags_len = 1;
+        length = 0;
+        const uint32_t status =
+            cadence_format_signed(&strict, 0, BYTES("k"), &one, 1, &options, packet, sizeof packet, &length);
+        all = all && status == after_a_key && (length != 0) == (status == CADENCE_OK);
         options.tags_len = 0, options.contained = true;
         options.container = (const uint8_t *)text, options.container_len = strlen(text);
         all = all && cadence_count(&handle, &strict, "c", 1, &options) == CADENCE_SEPARATOR;
         all = all && cadence_format_signed(&strict, 0, BYTES("k"), &one, 1, &options, packet, sizeof packet, &length)
             == CADENCE_SEPARATOR && length == 0;
     }
-    for (int i = 1; i <= 3; i++)
+    for (int i = 1; i <= 2; i++)
         all = all && cadence_settings_make(&strict, "p", &tags[i], 1, NULL, true, room, sizeof room, &length) == CADENCE_SEPARATOR;
+    all = all && cadence_settings_make(&strict, "p", &valued, 1, NULL, true, room, sizeof room, &length) == after_a_key;
     all = all && cadence_settings_make(&strict, text, NULL, 0, NULL, true, room, sizeof room, &length) == CADENCE_SEPARATOR;
     all = all && cadence_settings_make(&strict, "p", NULL, 0, text, true, room, sizeof room, &length) == CADENCE_SEPARATOR;
     all = all && cadence_settings_make(&strict, "p", NULL, 0, NULL, true, room, sizeof room, &length) == CADENCE_OK;
@@ -287,15 +295,18 @@ static void strict(void) {
     cadence_settings settings;
     const cadence_tag free_tags[] = { cadence_tag_of("k e", "\xc3\xa9#@"), cadence_tag_of(NULL, ""),
                                       { BYTES(","), BYTES("w"), false } };
-    const cadence_tag unfree = cadence_tag_of("k", ":"), bad = { NULL, 0, BAD, false }, env = cadence_tag_of("env", "prod");
-    cadence_options options = cadence_options_of(free_tags, 3), two = options;
+    const cadence_tag unfree = cadence_tag_of("k:", "v"), bad = { NULL, 0, BAD, false }, env = cadence_tag_of("env", "prod");
+    const cadence_tag url = cadence_tag_of("url", "http://x");
+    cadence_options options = cadence_options_of(free_tags, 3), two = options, urls = cadence_options_of(&url, 1);
     const cadence_tag both[] = { unfree, bad };
     CHECK(refuses(":") && refuses(",") && refuses("|") && refuses("\n"));
-    CHECK(refuses("a:1|c") && refuses(",x") && refuses("x\n") && refuses("\xc3\xa9|"));
+    CHECK(refuses("a:1|c") && refuses(",x") && refuses("x\n") && refuses("\xc3\xa9|") && refuses("http://x") && refuses("::1"));
     CHECK(cadence_settings_make(&settings, "p", &env, 1, "id", true, room, sizeof room, &needed) == CADENCE_OK);
     options.container = (const uint8_t *)"|", options.container_len = 1; /* it is not read, since it is not set */
     CHECK(cadence_count(&handle, &settings, "c", 1, &options) == CADENCE_OK);
     CHECK(sends(&handle, "p.c:1|c|#env:prod,k e:\xc3\xa9#@,,w|c:id\n"));
+    CHECK(cadence_count(&handle, &settings, "c", 1, &urls) == CADENCE_OK);
+    CHECK(sends(&handle, "p.c:1|c|#env:prod,url:http://x|c:id\n"));
     CHECK(cadence_raw(&handle, "own:1|c|#a,b") == CADENCE_OK && sends(&handle, "own:1|c|#a,b\n"));
 
     /* the order: what doesn't fit and what is no UTF-8 first, then this, then the queue */

@@ -1,9 +1,10 @@
 /* SPDX-License-Identifier: Apache-2.0 OR MIT */
 /* fuzz SEQUENCES [SEED]: makes random calls with a heap that fails at random. It compares what is sent with the frames of
  * the lines whose calls returned CADENCE_OK. If a call returns another status, the counts must be as they were before
- * it. Strict settings must refuse just the texts with a separator. Before these calls it makes keys and adds numbers by
- * them, and the heap refuses each request in turn. It prints the first fault, and its exit status is then 1. At the end it
- * prints a checksum of all statuses, lines and packets, which is the same on each processor for the same words. */
+ * it. Strict settings must refuse just the texts with a separator, other than colons after the keys of tags. Before
+ * these calls it makes keys and adds numbers by them, and the heap refuses each request in turn. It prints the first
+ * fault, and its exit status is then 1. At the end it prints a checksum of all statuses, lines and packets, which is the
+ * same on each processor for the same words. */
 #include "cadence.h"
 #include <inttypes.h>
 #include <stdio.h>
@@ -93,18 +94,22 @@ static bool is_free(const uint8_t *at, size_t length) {
     return true;
 }
 
-static bool is_free_tag(const cadence_tag *tag) {
-    return is_free(tag->text, tag->text_len) && (!tag->keyed || is_free(tag->key, tag->key_len));
+/* The text of a tag with a key may have colons. */
+static bool is_clear_tag(const cadence_tag *tag) {
+    if (!tag->keyed) return is_free(tag->text, tag->text_len);
+    for (size_t i = 0; i < tag->text_len; i++)
+        if (tag->text[i] != ':' && !is_free(tag->text + i, 1)) return false;
+    return is_free(tag->key, tag->key_len);
 }
 
-static bool is_free_call(text key, const cadence_options *options) {
+static bool is_clear_call(text key, const cadence_options *options) {
     bool all = is_free(key.at, key.length);
-    for (size_t i = 0; i < options->tags_len; i++) all = all && is_free_tag(&options->tags[i]);
+    for (size_t i = 0; i < options->tags_len; i++) all = all && is_clear_tag(&options->tags[i]);
     return all && (!options->contained || is_free(options->container, options->container_len));
 }
 
-/* Compares a status with whether the texts have no separator. Strict settings refuse the others, before the client looks
- * for room. */
+/* Compares a status with whether the texts have no separator but colons after keys. Strict settings refuse the others,
+ * before the client looks for room. */
 static uint32_t strictly(bool strict, bool free_texts, uint32_t status) {
     if (status == CADENCE_SEPARATOR && (!strict || free_texts)) fail("a call without a separator is refused", status);
     if ((status == CADENCE_OK || status == CADENCE_FULL || status == CADENCE_TOO_SMALL) && strict && !free_texts) fail("a separator is kept", status);
@@ -195,9 +200,9 @@ static void sets(void) {
     all_plain = true;
     const text prefix = some_text(), container = some_text();
     cadence_settings made = CADENCE_NO_SETTINGS;
-    bool is_free_tags = true;
+    bool are_clear_tags = true;
     size_t n = below(5), length = sizeof room;
-    for (size_t i = 0; i < n; i++) tags[i] = some_tag(), is_free_tags = is_free_tags && is_free_tag(&tags[i]);
+    for (size_t i = 0; i < n; i++) tags[i] = some_tag(), are_clear_tags = are_clear_tags && is_clear_tag(&tags[i]);
     requests = 0, refuse_at = below(4) == 0 ? 1 + below(3) : 0;
     made.strict = below(3) == 0, made.contained = below(2);
     made.container = container.at, made.container_len = container.length;
@@ -206,7 +211,7 @@ static void sets(void) {
     made.prefix = room, made.tags = room + made.prefix_len, length -= made.prefix_len;
     if (status == CADENCE_OK) {
         status = cadence_tags_text(n != 0 ? tags : NULL, n, made.strict, room + made.prefix_len, length, &made.tags_len);
-        strictly(made.strict, is_free_tags, status);
+        strictly(made.strict, are_clear_tags, status);
     }
     if (status == CADENCE_OK && made.contained && made.strict) {
         status = cadence_test_text(container.at, container.length);
@@ -251,7 +256,7 @@ static uint32_t keeps_line(host *h) {
     cadence_options options = some_options();
     size_t length = 1, most = below(6) == 0 ? below(40) : sizeof line;
     uint32_t status = formats(key, &options, line, most, &length);
-    strictly(settings.strict, is_free_call(key, &options), status);
+    strictly(settings.strict, is_clear_call(key, &options), status);
     if (status == CADENCE_TOO_SMALL ? length <= most : status != CADENCE_OK && length != 0) fail("a length of no line", status);
     if (status != CADENCE_OK) return status;
     add_to_sum(line, length);
@@ -283,7 +288,7 @@ static uint32_t keeps_value(host *h) {
     text key = some_text();
     cadence_options options = some_options();
     if (!h->drops) return keeps_line(h);
-    return strictly(settings.strict, is_free_call(key, &options), keeps_value_of(h, key, options));
+    return strictly(settings.strict, is_clear_call(key, &options), keeps_value_of(h, key, options));
 }
 
 static uint32_t acts(host *h) {

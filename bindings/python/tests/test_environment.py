@@ -9,7 +9,7 @@ import unittest
 from unittest import mock
 
 from receiver import ClientTest, Receiver
-from statsd_proved import StatsClient, StatusError, VariableError, environment
+from statsd_proved import StatsClient, VariableError, environment
 
 BINDINGS = pathlib.Path(__file__).resolve().parents[2]
 # an archive has the file beside this package, and the repository has it where its own test reads it
@@ -186,11 +186,9 @@ class Clients(ClientTest):
                     self.made(given)
                 made.assert_not_called()
 
-    def test_a_strict_client_refuses_a_tag_of_a_variable_that_has_a_separator(self):
+    def test_a_strict_client_takes_the_tags_of_variables(self):
         port = self.receiver.address[1]
-        self.check(self.made(f"STATSD_PORT={port} & DD_TAGS=k:v,beta", strict=True), "a:1|c|#k:v,beta")
-        with self.assertRaises(StatusError):
-            self.made("DD_TAGS=k:v:w", strict=True)
+        self.check(self.made(f"STATSD_PORT={port} & DD_TAGS=url:http://x,beta", strict=True), "a:1|c|#url:http://x,beta")
 
     def test_a_kind_of_ones_own(self):
         class Own(StatsClient):

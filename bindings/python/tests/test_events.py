@@ -97,8 +97,10 @@ class Sending(ClientTest):
             client.event("a", "b", tags=["page:home", "beta", ("k", 7), ":x", "y:"])
             client.service_check("a", client.OK, tags={"page": "home"})
             self.assertEqual(client.lines, ["_e{1,1}:a|b|#a:b,page:home,beta,k:7,:x,y:", "_sc|a|0|#a:b,page:home"])
+            client.event("a", "b", tags=["url:http://x"])
+            self.assertEqual(client.lines[-1], "_e{1,1}:a|b|#a:b,url:http://x")
             with self.assertRaises(StatusError) as raised:
-                client.event("a", "b", tags=["url:http://x"])
+                client.event("a", "b", tags=["url:http|x"])
             self.assertEqual(raised.exception.status, Status.UNFIT_TAGS)
         with SpyStatsClient(raises=True, strict=True) as client:
             client.event("a:b", "c|d", tags={"page": "home"})

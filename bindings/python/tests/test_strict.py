@@ -6,7 +6,9 @@ import unittest
 from receiver import ClientTest
 from statsd_proved import StatsClient, Status, StatusError
 
-HOSTILE = [":", ",", "|", "\n", "a:1|c", "a,b:c", "a\nb:1|c", "é|"]
+# Texts that no place of a call may have, and texts that may follow the key of a tag and may stand nowhere else.
+HOSTILE = [",", "|", "\n", "a:1|c", "a,b:c", "a\nb:1|c", "é|"]
+COLONS = [":", "http://x", "nginx:1.25", "::1"]
 
 
 class Strict(ClientTest):
@@ -24,22 +26,32 @@ class Strict(ClientTest):
         self.faults.clear()
 
     def test_a_call_with_a_separator_is_refused(self):
-        for text in HOSTILE:
+        for text in HOSTILE + COLONS:
             with self.subTest(text=text):
                 self.assert_refused(
                     lambda c: c.incr(text), lambda c: c.timing(text, [1, 2]), lambda c: c.incr(text, 2 ** 64 - 1),
-                    lambda c: c.incr("a", tags={text: "v"}), lambda c: c.incr("a", tags=[("k", "v"), ("k", text)]),
-                    lambda c: c.incr("a", tags=[text, "b"]), lambda c: c.incr("a", container=text))
+                    lambda c: c.incr("a", tags={text: "v"}), lambda c: c.incr("a", tags=[text, "b"]),
+                    lambda c: c.incr("a", container=text))
+        for text in HOSTILE:
+            with self.subTest(text=text):
+                self.assert_refused(lambda c: c.incr("a", tags=[("k", "v"), ("k", text)]))
+
+    def test_the_first_colon_of_a_tag_ends_its_key(self):
+        for text in COLONS:
+            lines = self.sent_by(lambda c: (c.incr("a", tags={"own": text}), c.set("s", "v", tags={"own": text})), tags={"default": text})
+            self.assertEqual(lines, [f"a:1|c|#default:{text},own:{text}", f"s:v|s|#default:{text},own:{text}"])
 
     def test_a_call_whose_line_is_put_together_here_is_refused(self):
-        for text in HOSTILE:
+        for text in HOSTILE + COLONS:
             with self.subTest(text=text):
                 self.assert_refused(
                     lambda c: c.set("s", text), lambda c: c.set(text, "v"), lambda c: c.set("s", "v", tags={text: "v"}),
-                    lambda c: c.set("s", "v", tags={"k": text}), lambda c: c.set("s", "v", tags=["a", text]),
-                    lambda c: c.set("s", "v", container=text), lambda c: c.gauge(text, 1, delta=True),
-                    lambda c: c.gauge("g", 1, delta=True, tags=[text]), lambda c: c.gauge(text, -1),
-                    lambda c: c.gauge("g", -1, container=text), lambda c: c.gauge("g", -1, tags={"k": text}))
+                    lambda c: c.set("s", "v", tags=["a", text]), lambda c: c.set("s", "v", container=text),
+                    lambda c: c.gauge(text, 1, delta=True), lambda c: c.gauge("g", 1, delta=True, tags=[text]),
+                    lambda c: c.gauge(text, -1), lambda c: c.gauge("g", -1, container=text))
+        for text in HOSTILE:
+            with self.subTest(text=text):
+                self.assert_refused(lambda c: c.set("s", "v", tags={"k": text}), lambda c: c.gauge("g", -1, tags={"k": text}))
 
     def test_a_pipeline_refuses_too(self):
         def calls(client):
@@ -48,8 +60,8 @@ class Strict(ClientTest):
         self.assert_refused(calls)
 
     def test_a_client_with_a_separator_is_not_made(self):
-        for text in HOSTILE:
-            for words in ({"prefix": text}, {"prefix": f"p.{text}"}, {"tags": {text: "v"}}, {"tags": {"k": text}},
+        for text in HOSTILE + COLONS:
+            for words in ({"prefix": text}, {"prefix": f"p.{text}"}, {"tags": {text: "v"}}, {"tags": {"k": f"|{text}"}},
                           {"tags": ["a", text]}, {"tags": [("k", "v"), (text, "v")]}, {"container": text}):
                 with self.subTest(words=words), self.assertRaises(StatusError) as raised:
                     StatsClient(*self.receiver.address, strict=True, **words)

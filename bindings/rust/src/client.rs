@@ -65,11 +65,12 @@ impl StatsdClientBuilder {
 
     /// Makes the client strict: it refuses each call with a `:`, a `,`, a `|` or a newline in its key, in the key or the
     /// value of a tag, or in the container, with [`ErrorKind::InvalidInput`](crate::ErrorKind::InvalidInput)
-    /// (`separator in a text`). Then nothing is sent, so no text can make, change or split a metric. A value that can't be
-    /// sent is refused first. The crate `cadence` doesn't have this call.
+    /// (`separator in a text`). Then nothing is sent, so no text can make, change or split a metric. The value of a tag
+    /// with a key may have colons, as in `url:http://x`, because the first colon of a tag ends its key. A value that
+    /// can't be sent is refused first. The crate `cadence` doesn't have this call.
     ///
-    /// If the prefix, a default tag or the default container has one of these characters, the client refuses each call,
-    /// and [`try_build`](Self::try_build) returns the error at once.
+    /// If the prefix, a default tag or the default container has such a character, the client refuses each call, and
+    /// [`try_build`](Self::try_build) returns the error at once.
     ///
     /// ```
     /// use cadence::prelude::*;
@@ -79,6 +80,7 @@ impl StatsdClientBuilder {
     /// assert!(client.incr("visits").is_ok());
     /// assert!(client.incr("visits:1|c\nforged").is_err());
     /// assert!(client.incr_with_tags("visits").with_tag("page", "home,admin:true").try_send().is_err());
+    /// assert!(client.incr_with_tags("visits").with_tag("url", "http://x").try_send().is_ok());
     /// ```
     pub fn with_strict_texts(mut self) -> Self {
         self.strict = true;

@@ -6,7 +6,10 @@ use cadence::{Counter, ErrorKind, Metric, MetricError, MetricResult, MetricSink,
 use std::io;
 use std::sync::{Arc, Mutex};
 
-const HOSTILE: [&str; 8] = [":", ",", "|", "\n", "a:1|c", "a,b:c", "a\nb:1|c", "é|"];
+/// Texts that no place of a call may have.
+const HOSTILE: [&str; 7] = [",", "|", "\n", "a:1|c", "a,b:c", "a\nb:1|c", "é|"];
+/// Texts that may follow the key of a tag, and may stand nowhere else.
+const COLONS: [&str; 4] = [":", "http://x", "nginx:1.25", "::1"];
 
 /// A sink that stores its lines.
 #[derive(Clone, Default)]
@@ -34,14 +37,16 @@ fn assert_refused<T: std::fmt::Debug>(result: MetricResult<T>) {
 fn a_call_with_a_separator_is_refused() {
     let lines = Lines::default();
     let c = strict(&lines).with_tag("env", "prod").with_tag_value("beta").with_container_id("box").build();
-    for text in HOSTILE {
+    for text in HOSTILE.into_iter().chain(COLONS) {
         assert_refused(c.incr(text));
         assert_refused(c.time(text, vec![1u64, 2]));
         assert_refused(c.gauge(text, 0.5));
         assert_refused(c.incr_with_tags("k").with_tag(text, "v").try_send());
-        assert_refused(c.incr_with_tags("k").with_tag("a", "b").with_tag("k", text).try_send());
         assert_refused(c.incr_with_tags("k").with_tag_value(text).with_tag("a", "b").try_send());
         assert_refused(c.histogram_with_tags("k", 1.5).with_container_id(text).try_send());
+    }
+    for text in HOSTILE {
+        assert_refused(c.incr_with_tags("k").with_tag("a", "b").with_tag("k", text).try_send());
     }
     assert!(lines.0.lock().unwrap().is_empty());
 }
@@ -56,23 +61,42 @@ fn a_call_without_a_separator_is_sent_as_before() {
 }
 
 #[test]
-fn a_client_that_has_a_separator_itself_refuses_each_call() {
-    for text in HOSTILE {
+fn the_first_colon_of_a_tag_ends_its_key() {
+    for text in COLONS {
         let lines = Lines::default();
-        let builders: [&dyn Fn() -> StatsdClientBuilder; 6] = [
+        let c = strict(&lines).with_tag("default", text).build();
+        c.incr_with_tags("k").with_tag("own", text).with_tag_value("x").try_send().unwrap();
+        assert_eq!([format!("p.k:1|c|#default:{text},own:{text},x")], lines.0.lock().unwrap()[..]);
+    }
+}
+
+/// Asserts that clients which these builders make refuse each call.
+#[track_caller]
+fn assert_unusable(lines: &Lines, builders: &[&dyn Fn() -> StatsdClientBuilder]) {
+    for builder in builders {
+        assert_refused(builder().try_build());
+        assert_refused(builder().build().incr("k"));
+        assert_refused(builder().build().incr_with_tags("k").with_container_id("box").try_send());
+    }
+    assert!(lines.0.lock().unwrap().is_empty());
+}
+
+#[test]
+fn a_client_that_has_a_separator_itself_refuses_each_call() {
+    let lines = Lines::default();
+    for text in HOSTILE.into_iter().chain(COLONS) {
+        assert_unusable(&lines, &[
             &|| StatsdClient::builder(text, lines.clone()).with_strict_texts(),
             &|| strict(&lines).with_tag(text, "v"),
-            &|| strict(&lines).with_tag("k", text),
             &|| strict(&lines).with_tag_value(text),
             &|| strict(&lines).with_container_id(text),
+        ]);
+    }
+    for text in HOSTILE {
+        assert_unusable(&lines, &[
+            &|| strict(&lines).with_tag("k", text),
             &|| StatsdClient::builder("p", lines.clone()).with_tag("k", text).with_strict_texts(),
-        ];
-        for builder in builders {
-            assert_refused(builder().try_build());
-            assert_refused(builder().build().incr("k"));
-            assert_refused(builder().build().incr_with_tags("k").with_container_id("box").try_send());
-        }
-        assert!(lines.0.lock().unwrap().is_empty());
+        ]);
     }
     assert!(strict(&Lines::default()).with_tag("k", "v").try_build().is_ok());
 }

@@ -9,9 +9,9 @@ ghost use Rattle.cadence.specs.Sending.{AppliesOption, StandsForMore};
 use crate::types::MetricText;
 pub use cadence_schedule::{packets_read_one_way, tight_is_fewest};
 use cadence_settings::an_option_is_chosen;
-pub use cadence_settings::strict_calls_are_free;
+pub use cadence_settings::strict_calls_are_clear;
 pub use cadence_text::laws::{
-    free_texts_pass, line_reads_one_way, no_line_is_empty, packet_reads_one_way,
+    clear_texts_pass, free_is_clear, line_reads_one_way, no_line_is_empty, packet_reads_one_way,
 };
 pub use cadence_value::laws::decimals_equal_by_number;
 use std::alloc::Allocator;

@@ -6,7 +6,7 @@ use Rattle.cadence_errors.specs.Errors.{Makes}
 use Rattle.cadence_errors.specs.declared.MetricError.{MetricError}
 use Rattle.cadence_text.specs.Metric.{Tag}
 use Rattle.cadence.specs.Shown.{Changes}
-use Rattle.cadence_text.specs.FreeTexts.{is_free_tag}
+use Rattle.cadence_text.specs.FreeTexts.{is_clear_tag}
 use Rattle.cadence_settings.specs.Settings.{FailsFor, Settings, allows_tag, with_default_tag}
 use Rattle.cadence_agent.specs.Shown.{with_tags}
 
@@ -19,7 +19,7 @@ makes_more s tags tag (Ok m) (Ok n) free made change =
     change.1 ∙ ap (λ before. with_default_tag before tag) made ∙ ap (λ all. record s { tags = all }) (append_assoc s.tags tags (tag ∷ []))
 makes_more s tags tag (Ok m) (Err e) free made change =
     let failed : FailsFor (allows_tag (with_tags s tags) tag) e = subst (λ m. FailsFor (allows_tag m tag) e) made change in
-    subst (λ strict. FailsFor (not strict || is_free_tag tag) e) free failed
+    subst (λ strict. FailsFor (not strict || is_clear_tag tag) e) free failed
 
 -- If the tags before it were added, each as `f` converts it, and then the next tag, then the tags up to this one were added.
 pub makes_next : {Y : Type 0} (f : Y → Tag) (tags : List Y) (k : ℕ) (y : Y) (tag : Tag) (s : Settings) (mid new : Result Settings MetricError)

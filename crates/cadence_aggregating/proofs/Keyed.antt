@@ -7,10 +7,10 @@ use mir.Syntax.{w64}
 use Rattle.cadence_aggregate.specs.Server.{Sample, amount, level, member, timing, unclear, other}
 use Rattle.cadence_errors.specs.declared.MetricError.{MetricError}
 use Rattle.cadence_read.specs.Listed.{IsListed}
-use Rattle.cadence_settings.specs.Call.{Choice, MetricCall, allows_call, chosen_time, is_free_call, last_or, metric_of_call, tagged}
+use Rattle.cadence_settings.specs.Call.{Choice, MetricCall, allows_call, chosen_time, is_clear_call, last_or, metric_of_call, tagged}
 use Rattle.cadence_settings.specs.CallData.{LineFails, call_of, line_of_data, metric_of_data, numbers_of_value}
-use Rattle.cadence_settings.specs.Laws.{StrictCallsAreFree}
-use Rattle.cadence_settings.specs.Settings.{FailsFor, Settings, is_free_settings}
+use Rattle.cadence_settings.specs.Laws.{StrictCallsAreClear}
+use Rattle.cadence_settings.specs.Settings.{FailsFor, Settings, is_clear_settings}
 use Rattle.cadence_settings.specs.declared.call.Call.{Call}
 use Rattle.cadence_text.specs.declared.line.MetricType.{MetricType}
 use Rattle.cadence_text.specs.declared.line.MetricType.TheVariants.{Counter, Gauge, Set}
@@ -56,18 +56,18 @@ may_fail true e h = inl h
 may_fail false e h = inr (h, refl)
 
 module _ {Z : Type 0} (s : Settings) (call : Call Z) (strict : IsTrue s.strict) (zero : numbers_of_value call.value ≡ Some zeros) where
-  pub line_of_zero : (line : List ℕ) → StrictCallsAreFree → IsTrue (is_free_settings s) → line_of_data s call ≡ Some line
+  pub line_of_zero : (line : List ℕ) → StrictCallsAreClear → IsTrue (is_clear_settings s) → line_of_data s call ≡ Some line
       → IfSome (metric_of_data s call) IsRepresentable → IsLineOfZero s (call_of call []) line
   line_of_zero line free settings has representable =
       let (allowed, whole, good) = found (λ ns. metric_of_call s (call_of call ns)) line_of IsRepresentable (allows_call s (call_of call []))
       (numbers_of_value call.value) zeros line zero has representable in
       record { listed = record { representable = good; free = free s (call_of call zeros) strict settings allowed }; whole = whole }
 
-  pub zero_fails : (e : MetricError) → LineFails (line_of_data s call) e → MayFailFor (is_free_call (call_of call [])) e
+  pub zero_fails : (e : MetricError) → LineFails (line_of_data s call) e → MayFailFor (is_clear_call (call_of call [])) e
   zero_fails e h =
       let c = call_of call [] in
-      let allowed : allows_call s c ≡ is_free_call c = ap (λ b. not b || is_free_call c) strict in
-      may_fail (is_free_call c) e (subst (λ b. FailsFor b e) allowed
+      let allowed : allows_call s c ≡ is_clear_call c = ap (λ b. not b || is_clear_call c) strict in
+      may_fail (is_clear_call c) e (subst (λ b. FailsFor b e) allowed
       (fails (λ ns. metric_of_call s (call_of call ns)) line_of (allows_call s c) (numbers_of_value call.value) zeros e zero h))
 
 -- the line of zero of a call with tags

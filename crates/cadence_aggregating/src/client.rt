@@ -45,7 +45,7 @@ impl<H: FlushErrorHandler + Send + Sync + 'static> AggregatingMetricSinkBuilder<
     ghost use Rattle.std.specs.Prelude.{◌≡◌, ◌⊎◌, IfErr, IfOk, IsTrue, OnOk, false};
     ghost use Rattle.cadence_errors.specs.Errors.{IsInvalid};
     ghost use Rattle.cadence_queuing.specs.Queuing.{IsQueuingRefusal};
-    ghost use Rattle.cadence_settings.specs.Settings.{is_free_settings, with_strict_texts};
+    ghost use Rattle.cadence_settings.specs.Settings.{is_clear_settings, with_strict_texts};
     ghost use Rattle.cadence_aggregating.specs.Clients.{settings_of_aggregated};
 
     /// Makes a client that adds its calls up with these settings, over a sink that takes the sums. The settings of the
@@ -66,9 +66,9 @@ impl<H: FlushErrorHandler + Send + Sync + 'static> AggregatingMetricSinkBuilder<
     ) -> MetricResult<AggregatedClient<S, R, H>>
         ensures settings { IfOk result (λ client.
             settings_of_aggregated client ≡ with_strict_texts settings) }
-        ensures free { OnOk result (IsTrue (is_free_settings settings)) }
+        ensures free { OnOk result (IsTrue (is_clear_settings settings)) }
         ensures refused { IfErr result (λ e. IsQueuingRefusal e
-            ⊎ (IsInvalid e × (is_free_settings settings ≡ false))) }
+            ⊎ (IsInvalid e × (is_clear_settings settings ≡ false))) }
     {
         let settings = StrictSettings::new(settings)?;
         let locked = LockedAggregator::new(rt.clone()?, alloc, self.limits, sink, self.handler)?;
@@ -88,7 +88,7 @@ impl<H: FlushErrorHandler + Send + Sync + 'static> AggregatingMetricSinkBuilder<
 
 impl<S: MetricSink, R: Wait + Drop> AggregatedClient<S, R> {
     ghost use Rattle.std.specs.Prelude.{◌≡◌, IfErr, IfOk};
-    ghost use Rattle.cadence_settings.specs.Settings.{is_free_settings, settings_of, with_strict_texts};
+    ghost use Rattle.cadence_settings.specs.Settings.{is_clear_settings, settings_of, with_strict_texts};
     ghost use Rattle.cadence_aggregating.specs.Contexts.{MayFailFor};
     ghost use Rattle.cadence_aggregating.specs.Clients.{settings_of_aggregated};
 
@@ -100,7 +100,7 @@ impl<S: MetricSink, R: Wait + Drop> AggregatedClient<S, R> {
     pub fn from_sink(rt: R, alloc: Global, prefix: &str, sink: S) -> MetricResult<Self>
         ensures settings { IfOk result (λ client.
             settings_of_aggregated client ≡ with_strict_texts (settings_of prefix.now)) }
-        ensures refused { IfErr result (MayFailFor (is_free_settings (settings_of prefix.now))) }
+        ensures refused { IfErr result (MayFailFor (is_clear_settings (settings_of prefix.now))) }
     {
         let AggregatingMetricSinkBuilder {
             limits,
@@ -120,7 +120,7 @@ impl<S: MetricSink, R: Wait + Drop> AggregatedClient<S, R> {
 
 impl<S: MetricSink, R: Wait + Drop, H: FlushErrorHandler> AggregatedClient<S, R, H> {
     ghost use Rattle.std.specs.Prelude.{◌≡◌, IfErr, IfOk, map, negsuc, pos};
-    ghost use Rattle.cadence_settings.specs.Call.{is_free_call};
+    ghost use Rattle.cadence_settings.specs.Call.{is_clear_call};
     ghost use Rattle.cadence_text.specs.declared.line.MetricType.TheVariants.{Counter, Gauge};
     ghost use Rattle.cadence_text.specs.Record.{tag_of};
     ghost use Rattle.cadence_aggregating.specs.Contexts.{MayFailFor, tagged_call};
@@ -137,7 +137,7 @@ impl<S: MetricSink, R: Wait + Drop, H: FlushErrorHandler> AggregatedClient<S, R,
         ensures lines { IfOk result (CountsFor (settings_of_aggregated self.now)
             (tagged_call Counter key.now (map tag_of tags.now))) }
         ensures refused { IfErr result (MayFailFor
-            (is_free_call (tagged_call Counter key.now (map tag_of tags.now)))) }
+            (is_clear_call (tagged_call Counter key.now (map tag_of tags.now)))) }
     {
         CounterKey::of_tagged(self.alloc, &self.settings, key, tags)
     }
@@ -147,7 +147,7 @@ impl<S: MetricSink, R: Wait + Drop, H: FlushErrorHandler> AggregatedClient<S, R,
         ensures lines { IfOk result (SetsFor (settings_of_aggregated self.now)
             (tagged_call Gauge key.now (map tag_of tags.now))) }
         ensures refused { IfErr result (MayFailFor
-            (is_free_call (tagged_call Gauge key.now (map tag_of tags.now)))) }
+            (is_clear_call (tagged_call Gauge key.now (map tag_of tags.now)))) }
     {
         GaugeKey::of_tagged(self.alloc, &self.settings, key, tags)
     }

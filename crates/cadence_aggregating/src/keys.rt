@@ -1,7 +1,7 @@
 //! The keys of calls that make no line.
 ghost use Rattle.std.specs.Prelude.{◌≡◌, [], Some, IfErr, IfNone, IfOk, IfSome, IsFalse, IsTrue, OnErr, OnOk, map, string_bytes};
 ghost use Rattle.cadence_errors.specs.Errors.{IsInvalid};
-ghost use Rattle.cadence_settings.specs.Call.{is_free_call, tagged};
+ghost use Rattle.cadence_settings.specs.Call.{is_clear_call, tagged};
 ghost use Rattle.cadence_settings.specs.CallData.{call_of, choice_of, kind_of_value, numbers_of_value};
 ghost use Rattle.cadence_text.specs.Record.{tag_of};
 ghost use Rattle.cadence_text.specs.declared.line.MetricType.TheVariants.{Counter, Gauge};
@@ -10,7 +10,7 @@ ghost use Rattle.cadence_aggregating.specs.Contexts.{IsContextOf, IsLineOfZero, 
 use crate::said::read_said;
 use cadence_aggregate::Line;
 use cadence_errors::{ErrorKind, MetricError, MetricResult};
-use cadence_settings::{Call, CallOption, CallValue, ClientSettings, strict_calls_are_free};
+use cadence_settings::{Call, CallOption, CallValue, ClientSettings, strict_calls_are_clear};
 use cadence_text::laws::line_reads_one_way;
 use cadence_text::line::Tag;
 use std::alloc::{AllocError, Global};
@@ -23,15 +23,15 @@ pub(crate) struct StrictSettings {
 }
 
 impl StrictSettings {
-    ghost use Rattle.cadence_settings.specs.Settings.{is_free_settings, with_strict_texts};
+    ghost use Rattle.cadence_settings.specs.Settings.{is_clear_settings, with_strict_texts};
 
     /// Makes settings strict. The error is of kind `InvalidInput`, and comes if and only if a text of them has a
     /// separator.
     pub(crate) fn new(settings: ClientSettings) -> MetricResult<StrictSettings>
         ensures settings { IfOk result (λ made. made.settings ≡ with_strict_texts settings) }
-        ensures free { OnOk result (IsTrue (is_free_settings settings)) }
+        ensures free { OnOk result (IsTrue (is_clear_settings settings)) }
         ensures refused { IfErr result IsInvalid }
-        ensures unfree { OnErr result (IsFalse (is_free_settings settings)) }
+        ensures unfree { OnErr result (IsFalse (is_clear_settings settings)) }
     {
         let mut settings = settings;
         settings.set_strict()?;
@@ -43,10 +43,10 @@ impl StrictSettings {
         requires { numbers_of_value (call.now).value ≡ Some zeros }
         ensures line { IfOk result (λ line.
             IsLineOfZero self.now.settings (call_of call.now []) (string_bytes line)) }
-        ensures refused { IfErr result (MayFailFor (is_free_call (call_of call.now []))) }
+        ensures refused { IfErr result (MayFailFor (is_clear_call (call_of call.now []))) }
     {
         self.settings.is_strict();
-        strict_calls_are_free();
+        strict_calls_are_clear();
         match self.settings.line_of(call) {
             Ok(line) => Ok(line),
             Err(error) => Err(error),
@@ -122,7 +122,7 @@ impl StrictSettings {
         requires zero { numbers_of_value value ≡ Some zeros }
         ensures key { IfOk result (IsKeyFor self.now.settings
             (tagged_call (kind_of_value value) key.now (map tag_of tags.now))) }
-        ensures refused { IfErr result (MayFailFor (is_free_call
+        ensures refused { IfErr result (MayFailFor (is_clear_call
             (tagged_call (kind_of_value value) key.now (map tag_of tags.now)))) }
     {
         line_reads_one_way();
@@ -155,7 +155,7 @@ impl CounterKey {
         ensures lines { IfOk result (CountsFor settings.now.settings
             (tagged_call Counter key.now (map tag_of tags.now))) }
         ensures refused { IfErr result (MayFailFor
-            (is_free_call (tagged_call Counter key.now (map tag_of tags.now)))) }
+            (is_clear_call (tagged_call Counter key.now (map tag_of tags.now)))) }
     {
         match settings.key_of(alloc, key, CallValue::CountI64(0), tags)? {
             LineKey::Raises(key) => Ok(key),
@@ -180,7 +180,7 @@ impl GaugeKey {
         ensures lines { IfOk result (SetsFor settings.now.settings
             (tagged_call Gauge key.now (map tag_of tags.now))) }
         ensures refused { IfErr result (MayFailFor
-            (is_free_call (tagged_call Gauge key.now (map tag_of tags.now)))) }
+            (is_clear_call (tagged_call Gauge key.now (map tag_of tags.now)))) }
     {
         match settings.key_of(alloc, key, CallValue::GaugeU64(0), tags)? {
             LineKey::Sets(key) => Ok(key),

@@ -4,10 +4,10 @@ use Rattle.std.specs.List.{list_all}
 use Rattle.std.specs.Option.{option_copied}
 use Rattle.std.specs.Str.{IsUtf8}
 use Rattle.cadence_text.specs.Line.{tags_field}
-use Rattle.cadence_text.specs.FreeTexts.{is_free_tag, is_free_text}
+use Rattle.cadence_text.specs.FreeTexts.{is_clear_tag, is_free_text}
 use Rattle.cadence_settings.specs.Settings.{Settings, client_prefix}
 use Rattle.cadence_value.specs.Number.{Number}
-use Rattle.cadence_c.specs.Calls.{IsLineOfCall, c_tag, is_free_call_of_c}
+use Rattle.cadence_c.specs.Calls.{IsLineOfCall, c_tag, is_clear_call_of_c}
 use Rattle.cadence_c.specs.declared.call.COptions.{COptions}
 use Rattle.cadence_c.specs.declared.call.CTag.{CTag}
 use Rattle.cadence_c.specs.declared.settings.CSettings.{CSettings}
@@ -36,17 +36,17 @@ pub record HasTextsOf (t : Texts) (s : Settings) : Type 0 where
   pub tags : t.tags.now ≡ tags_field s.tags
   pub container : option_copied t.container ≡ s.container
 
--- whether settings allow the texts of a call: all texts, or if they are strict, those without a separator
+-- whether settings allow the texts of a call: all texts, or if they are strict, those of a clear call
 abbrev pub allows_c_call : Bool → List ℕ → COptions → Bool
-allows_c_call strict key o = not strict || is_free_call_of_c key o
+allows_c_call strict key o = not strict || is_clear_call_of_c key o
 
 -- whether settings allow a prefix: any prefix, or if they are strict, one without a separator
 abbrev pub allows_prefix : Bool → List ℕ → Bool
 allows_prefix strict prefix = not strict || is_free_text (client_prefix prefix)
 
--- whether settings allow these default tags: all tags, or if the settings are strict, those without a separator
+-- whether settings allow these default tags: all tags, or if the settings are strict, clear ones
 abbrev pub allows_tags : Bool → List CTag → Bool
-allows_tags strict tags = not strict || list_all is_free_tag (map c_tag tags)
+allows_tags strict tags = not strict || list_all is_clear_tag (map c_tag tags)
 
 -- For all settings that have these texts, this is the line of the call.
 abbrev pub IsLineWith : CSettings → ℕ → List ℕ → List Number → COptions → List ℕ → Type 0

@@ -5,7 +5,7 @@ ghost use Rattle.cadence_settings.specs.Settings.{Settings};
 ghost use Rattle.cadence_c.specs.Calls.{IsUtf8Options};
 ghost use Rattle.cadence_c.specs.Texts.{AreTextsOf, HasTextsOf, IsUtf8Settings, allows_c_call};
 
-use crate::call::{COptions, are_free_options, read_text};
+use crate::call::{COptions, are_clear_options, read_text};
 use cadence_settings::text_is_free;
 
 /// The texts of settings, and whether the settings are strict. `prefix` is what each line begins with, `tags` is the text
@@ -50,11 +50,12 @@ pub fn read_settings<'a>(settings: &CSettings<'a>, known: bool) -> Option<Texts<
     })
 }
 
-/// Returns whether settings allow the texts of a call: all texts, or if they are strict, those without a separator.
+/// Returns whether settings allow the texts of a call: all texts, or if they are strict, those without a separator other
+/// than colons after the keys of tags.
 #[inline(always)]
 pub fn allows_c_call(strict: bool, key: &str, options: &COptions<'_>) -> bool
     requires { IsUtf8Options options.now }
     ensures { result ≡ allows_c_call strict key.now options.now }
 {
-    !strict || are_free_options(options) && text_is_free(key)
+    !strict || are_clear_options(options) && text_is_free(key)
 }

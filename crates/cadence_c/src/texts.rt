@@ -10,7 +10,7 @@ ghost use Rattle.cadence_c.specs.Results.{WritesText};
 ghost use Rattle.cadence_c.specs.Status.{CADENCE_NOT_UTF8, CADENCE_OK, CADENCE_SEPARATOR, IsOkOr};
 ghost use Rattle.cadence_c.specs.Texts.{allows_prefix, allows_tags};
 
-use crate::call::{CTag, are_free_tags, are_tags, known_tag, text_of};
+use crate::call::{CTag, are_clear_tags, are_tags, known_tag, text_of};
 use crate::status::{OK, StatusError, copy_out};
 use cadence_settings::{formatted_prefix, text_is_free};
 use cadence_text::line::TagsText;
@@ -88,7 +88,7 @@ pub extern "C" fn cadence_tags_text(
     if !are_tags(tags) {
         return StatusError::NotUtf8.code();
     }
-    if strict && !are_free_tags(tags) {
+    if strict && !are_clear_tags(tags) {
         return StatusError::Separator.code();
     }
     let Ok(text) = text_of_tags(alloc, tags) else {

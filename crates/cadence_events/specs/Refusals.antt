@@ -8,7 +8,7 @@ use Rattle.cadence_events.specs.declared.refusal.Unfit.{Unfit}
 use Rattle.cadence_events.specs.declared.refusal.Unfit.TheVariants as unfit
 use Rattle.cadence_events.specs.Event.{Event}
 use Rattle.cadence_events.specs.ServiceCheck.{ServiceCheck}
-use Rattle.cadence_text.specs.FreeTexts.{is_free_if_any, is_free_tag, is_free_text}
+use Rattle.cadence_text.specs.FreeTexts.{is_free_if_any, is_clear_tag, is_free_text}
 
 -- the cause of the first test that failed
 abbrev pub first_failed : List (Bool × Unfit) → Option Unfit
@@ -20,17 +20,18 @@ abbrev pub has_no_bar : Option (List ℕ) → Bool
 has_no_bar None = true
 has_no_bar (Some text) = not (list_any (λ byte. byte == 124) text)
 
--- why an event has no line, if it has none: the first text with a separator. Its title and its text may have any byte.
+-- why an event has no line, if it has none: the first text with a separator, or the tags if one is not clear. Its title
+-- and its text may have any byte.
 abbrev pub event_refusal : Event → Option Unfit
 event_refusal e =
     first_failed ((is_free_if_any e.host, unfit.Host) ∷ (is_free_if_any e.key, unfit.AggregationKey) ∷ (is_free_if_any e.source, unfit.SourceType)
-    ∷ (list_all is_free_tag e.tags, unfit.Tags) ∷ (is_free_if_any e.container, unfit.Container) ∷ [])
+    ∷ (list_all is_clear_tag e.tags, unfit.Tags) ∷ (is_free_if_any e.container, unfit.Container) ∷ [])
 
--- why a service check has no line, if it has none: the first text with a separator, or a message with a bar. A
--- message may have any other byte.
+-- why a service check has no line, if it has none: the first text with a separator, the tags if one is not clear, or a
+-- message with a bar. A message may have any other byte.
 abbrev pub check_refusal : ServiceCheck → Option Unfit
 check_refusal c =
-    first_failed ((is_free_text c.name, unfit.Name) ∷ (is_free_if_any c.host, unfit.Host) ∷ (list_all is_free_tag c.tags, unfit.Tags)
+    first_failed ((is_free_text c.name, unfit.Name) ∷ (is_free_if_any c.host, unfit.Host) ∷ (list_all is_clear_tag c.tags, unfit.Tags)
     ∷ (is_free_if_any c.container, unfit.Container) ∷ (has_no_bar c.message, unfit.Message) ∷ [])
 
 -- A call that makes a line returned this line, or memory ran out. If there is a cause to refuse the line, it returned

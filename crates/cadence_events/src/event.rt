@@ -13,7 +13,7 @@ ghost use Rattle.cadence_value.specs.Takes.{Takes};
 use crate::escapes::{escaped_len, push_escaped};
 use crate::fields::{push_field, push_seconds, push_tags};
 use crate::lined::{Common, Lined, length_of, line_with};
-use crate::refusal::{LineError, Unfit, any_is_free, tags_are_free};
+use crate::refusal::{LineError, Unfit, any_is_free, tags_are_clear};
 use cadence_text::line::Tag;
 use cadence_value::text::PieceWriter;
 use std::alloc::Allocator;
@@ -243,7 +243,7 @@ impl Lined for Event<'_> {
         if !any_is_free(self.source) {
             return Some(Unfit::SourceType);
         }
-        if !tags_are_free(common.tags) {
+        if !tags_are_clear(common.tags) {
             return Some(Unfit::Tags);
         }
         if !any_is_free(common.container) {

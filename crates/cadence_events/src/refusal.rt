@@ -1,20 +1,22 @@
 //! Why the line of an event or of a service check was not made.
 //!
 //! A bar ends a field, a comma a tag, and a newline the line. The format has no escape for them, so a text with one of
-//! them would say something else to a server. The test is that of a strict client, which also refuses a colon.
+//! them would say something else to a server. The test is that of a strict client, which also refuses a colon anywhere but
+//! in the text of a tag with a key.
 ghost use Rattle.std.specs.Prelude.{◌≡◌, map};
 ghost use Rattle.std.specs.List.{list_all};
 ghost use Rattle.std.specs.Option.{option_copied};
 ghost use Rattle.cadence_events.specs.Refusals.{has_no_bar};
-ghost use Rattle.cadence_text.specs.FreeTexts.{is_free_if_any, is_free_tag};
+ghost use Rattle.cadence_text.specs.FreeTexts.{is_free_if_any, is_clear_tag};
 ghost use Rattle.cadence_text.specs.Record.{tag_of};
 
 use cadence_errors::{InputError, Reason};
-use cadence_settings::{tag_is_free, text_is_free};
+use cadence_settings::{tag_is_clear, text_is_free};
 use cadence_text::line::Tag;
 use std::fmt;
 
-/// Which text can't stand in a line. All but `Message` have a colon, a comma, a bar or a newline.
+/// Which text can't stand in a line. All but `Message` have a colon, a comma, a bar or a newline. The text of a tag with
+/// a key may have colons.
 #[derive(Clone, Copy, Debug, PartialEq, Eq)]
 pub enum Unfit {
     /// The name of a service check.
@@ -25,7 +27,7 @@ pub enum Unfit {
     AggregationKey,
     /// The source type of an event.
     SourceType,
-    /// The key or the text of a tag.
+    /// The key or the text of a tag, other than by a colon after the key.
     Tags,
     /// The id of the container.
     Container,
@@ -68,19 +70,19 @@ pub(crate) fn any_is_free(text: Option<&str>) -> bool
     }
 }
 
-// Returns whether neither the key of a tag, if it has one, nor its text has a separator.
-fn is_free(tag: &Tag<'_>) -> bool
-    ensures { result ≡ is_free_tag (tag_of tag.now) }
+// Returns whether a tag is clear: it has no separator, except colons after its key.
+fn is_clear(tag: &Tag<'_>) -> bool
+    ensures { result ≡ is_clear_tag (tag_of tag.now) }
 {
-    tag_is_free(tag.key, tag.text)
+    tag_is_clear(tag.key, tag.text)
 }
 
-/// Returns whether no tag of the list has a separator.
-pub(crate) fn tags_are_free(tags: &[Tag<'_>]) -> bool
-    ensures { result ≡ list_all is_free_tag (map tag_of tags.now) }
+/// Returns whether each tag of the list is clear.
+pub(crate) fn tags_are_clear(tags: &[Tag<'_>]) -> bool
+    ensures { result ≡ list_all is_clear_tag (map tag_of tags.now) }
 {
     for tag in tags {
-        if !is_free(tag) {
+        if !is_clear(tag) {
             return false;
         }
     }

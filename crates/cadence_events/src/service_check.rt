@@ -10,7 +10,7 @@ ghost use Rattle.cadence_value.specs.Takes.{Takes};
 
 use crate::fields::{push_field, push_message_field, push_seconds, push_tags};
 use crate::lined::{Common, Lined, length_of, line_with};
-use crate::refusal::{LineError, Unfit, any_is_free, is_without_bar, tags_are_free};
+use crate::refusal::{LineError, Unfit, any_is_free, is_without_bar, tags_are_clear};
 use cadence_settings::text_is_free;
 use cadence_text::line::Tag;
 use cadence_value::text::PieceWriter;
@@ -168,7 +168,7 @@ impl Lined for ServiceCheck<'_> {
         if !any_is_free(common.host) {
             return Some(Unfit::Host);
         }
-        if !tags_are_free(common.tags) {
+        if !tags_are_clear(common.tags) {
             return Some(Unfit::Tags);
         }
         if !any_is_free(common.container) {

@@ -26,14 +26,14 @@ split_append : {X : Type 0} (P : X → Type 0) (xs ys : List X) → AllByRecursi
 split_append P [] ys h = (tt, h)
 split_append P (x ∷ xs) ys (h, hs) = let (front, back) = split_append P xs ys hs in ((h, front), back)
 
-lists_listed : (lists : List (List Metric)) (packets : List (List ℕ)) → AllZip IsPacketOfOnly lists packets
+lists_listed : (lists : List (List Metric)) (packets : List (List ℕ)) → AllZip (IsPacketOfOnly IsFreeOfSeparators) lists packets
     → AllByRecursion IsRepresentable (flat_map (λ list. list) lists) → AllZip IsListOf packets lists
 lists_listed [] [] h representable = tt
 lists_listed [] (p ∷ ps) h representable = absurd h
 lists_listed (x ∷ xs) [] h representable = absurd h
 lists_listed (x ∷ xs) (p ∷ ps) (one, rest) representable =
     let (here, later) = split_append IsRepresentable x (flat_map (λ list. list) xs) representable in (
-      record { listed = All-from_recursion IsListed x (each_listed x (recursion_from_All IsFreeOfSeparators x one.free) here); whole = one.reads },
+      record { listed = All-from_recursion IsListed x (each_listed x (recursion_from_All IsFreeOfSeparators x one.each) here); whole = one.reads },
       lists_listed xs ps rest later,
     )
 
@@ -57,7 +57,7 @@ with_held packets [] lists h =
     )
 with_held packets (byte ∷ rest) lists h = (lists, h, refl)
 
-reads_listed : (metrics : List Metric) (packets : List (List ℕ)) (held : List ℕ) → All IsRepresentable metrics → ReadsAs metrics packets held
+reads_listed : (metrics : List Metric) (packets : List (List ℕ)) (held : List ℕ) → All IsRepresentable metrics → ReadsAs IsFreeOfSeparators metrics packets held
     → AreListed (packets ++ held ∷ []) metrics
 reads_listed metrics packets held representable (lists, joined, zipped) =
     let each : AllByRecursion IsRepresentable (flat_map (λ list. list) lists) =

@@ -1,20 +1,19 @@
--- The lines of metrics that can be read, as `cut_line` cuts them, and that a line is cut in one way only.
+-- The lines of clear metrics, as `cut_line` cuts them, and that a line is cut in one way only.
 use Rattle.std.proofs.Common.{◌≡◌, ◌≢◌, ℕ, List, [], ◌∷◌, ◌++◌, Option, Some, None, length, get_or, refl, sym, ap, ◌∙◌, subst, arith, codes}
 use Rattle.std.specs.Prelude.{All, ◌<◌}
 use Rattle.std.specs.List.{join_with_byte}
 use Rattle.std.proofs.lemmas.List.{get_or_append_left}
 use Rattle.std.proofs.lemmas.List.Elements.{All-from_recursion, All-weaker, recursion_from_All}
 use Rattle.std.proofs.Math.Seq.{get_or-append_seam}
-use Rattle.cadence_text.proofs.grammar.LineText.{joined_texts-joined, lacks_bars}
+use Rattle.cadence_text.proofs.grammar.LineText.{clear_lacks_bars, joined_texts-joined}
 use Rattle.cadence_text.specs.Line.{container_field, kind_text, line_of, rate_field, tags_field, time_field}
 use Rattle.cadence_text.specs.Metric.{Metric, Tag}
-use Rattle.cadence_text.specs.OneReading.{IsNoSeparator}
+use Rattle.cadence_text.specs.OneReading.{IsClear, IsNoSeparator}
 use Rattle.cadence_value.proofs.lists.SplitTexts.{Begins, Lacks, cut_at, each_append}
 use Rattle.cadence_value.specs.Number.{Number, joined_texts, number_text, numbers_text}
 use Rattle.cadence_read.proofs.Cuts.{head_lacks, head_of, headed, lacks, lacks_both}
 use Rattle.cadence_read.proofs.LineParts.{first_is, lacks_bar, plain_colon}
 use Rattle.cadence_read.specs.Cuts.{AreFields, IsCut, IsEvent, IsOther, IsServiceCheck, Parts, line_of_parts, own_parts}
-use Rattle.cadence_read.specs.Listed.{IsListed}
 
 begins : (fields : List ℕ) → AreFields fields → Begins 124 fields
 begins [] h = tt
@@ -62,16 +61,16 @@ letter_s = (λ e. absurd (omega (arith, e)), λ e. absurd (omega (arith, e)), λ
 letter_c : IsNoSeparator 99
 letter_c = (λ e. absurd (omega (arith, e)), λ e. absurd (omega (arith, e)), λ e. absurd (omega (arith, e)), λ e. absurd (omega (arith, e)))
 
-pub own_is_other : (m : Metric) → IsListed m → IsOther (line_of m)
+pub own_is_other : (m : Metric) → IsClear m → IsOther (line_of m)
 unfolding line_of
 own_is_other m h = (
   λ (size, rest, e, free).
-      let same : 58 ≡ 44 = colon_first (line_of m) m.name _ (95 ∷ 101 ∷ 123 ∷ size) rest 44 h.free.name refl
+      let same : 58 ≡ 44 = colon_first (line_of m) m.name _ (95 ∷ 101 ∷ 123 ∷ size) rest 44 h.name refl
       (free_three 95 101 123 low_line letter_e brace size free)
       (λ p. p.1 refl) e in
       absurd (omega (arith, same)),
   λ (rest, e).
-      let same : 58 ≡ 124 = colon_first (line_of m) m.name _ (95 ∷ 115 ∷ 99 ∷ []) rest 124 h.free.name refl
+      let same : 58 ≡ 124 = colon_first (line_of m) m.name _ (95 ∷ 115 ∷ 99 ∷ []) rest 124 h.name refl
       (free_three 95 115 99 low_line letter_s letter_c []
       (λ k d less. absurd (omega (arith, less)))) (λ p. p.2 refl) e in
       absurd (omega (arith, same)),
@@ -86,15 +85,15 @@ own_fields None [] (Some _) time = refl
 own_fields None [] None (Some _) = refl
 own_fields None [] None None = tt
 
-pub own_cut : (m : Metric) → IsListed m → IsCut (line_of m) (own_parts m)
+pub own_cut : (m : Metric) → IsClear m → IsCut (line_of m) (own_parts m)
 unfolding line_of
 own_cut m h =
-    let bars = lacks_bars m h.free in
+    let bars = clear_lacks_bars m h in
     let front = lacks_both 124 m.name (58 ∷ numbers_text m.numbers) (subst (Lacks 124) (ap (λ t. m.name ++ (58 ∷ t)) (sym (joined_texts-joined 58 number_text m.numbers))) bars.0) in
     record {
       whole = refl;
-      colon = plain_colon m.name h.free.name;
-      name = All-from_recursion (λ byte. byte ≢ 124) m.name (lacks_bar m.name h.free.name);
+      colon = plain_colon m.name h.name;
+      name = All-from_recursion (λ byte. byte ≢ 124) m.name (lacks_bar m.name h.name);
       values = All-from_recursion (λ byte. byte ≢ 124) (numbers_text m.numbers) front.1.1;
       kind = All-from_recursion (λ byte. byte ≢ 124) (kind_text m.kind) bars.1.0;
       fields = own_fields m.rate m.tags m.container m.time;

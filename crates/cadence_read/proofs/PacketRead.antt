@@ -12,11 +12,11 @@ use Rattle.std.proofs.lemmas.List.Elements.{All-cons, All-head, All-nil, All-wea
 use Rattle.std.proofs.lemmas.List.Splits.{join_with_byte-slice_split, length-slice_split}
 use Rattle.cadence_text.specs.Line.{line_of}
 use Rattle.cadence_text.specs.Metric.{Metric}
-use Rattle.cadence_text.specs.OneReading.{IsFreeOfSeparators, IsPacketOf, lines_of}
+use Rattle.cadence_text.specs.OneReading.{IsClear, IsPacketOf, lines_of}
 use Rattle.cadence_text.specs.Owned.{metric_of_owned, metrics_of}
 use Rattle.cadence_text.specs.declared.line.record.owned.OwnedMetric.{OwnedMetric}
 use Rattle.cadence_value.proofs.lists.SplitTexts.{Lacks, lacks_no, each_mapped}
-use Rattle.cadence_text.proofs.grammar.LineText.{line_lacks, packet_once}
+use Rattle.cadence_text.proofs.grammar.LineText.{free_clear, line_lacks, packet_once}
 use Rattle.cadence_errors.specs.declared.input_error.InputError.TheVariants.{Unusable, OutOfMemory}
 use Rattle.cadence_read.specs.Faults.{Fault}
 use Rattle.cadence_read.specs.Listed.{IsListed, IsListOf, ReadsPacket}
@@ -65,8 +65,8 @@ packet_alone ms packet some open_end (inr h) = h
 -- There is at most one list of metrics with this packet.
 pub list_once : (packet : List ℕ) (xs ys : List Metric) → IsListOf packet xs → IsListOf packet ys → xs ≡ ys
 list_once packet xs ys hx hy =
-    packet_once xs ys packet (All-weaker IsListed IsFreeOfSeparators (λ m h. h.free) xs hx.listed)
-    (All-weaker IsListed IsFreeOfSeparators (λ m h. h.free) ys hy.listed) hx.whole hy.whole
+    packet_once xs ys packet (All-weaker IsListed IsClear (λ m h. free_clear m h.free) xs hx.listed)
+    (All-weaker IsListed IsClear (λ m h. free_clear m h.free) ys hy.listed) hx.whole hy.whole
 
 -- A packet from which an end was stripped has that end. One from which it was not stripped doesn't have it.
 pub suffix_found : (packet lines mark : List ℕ) → pointwise eqb (drop (length packet - length mark) packet) mark ≡ true

@@ -2,10 +2,9 @@
 use Rattle.std.specs.Prelude.{◌≡◌, ◌≢◌, ⊤, ℕ, List, [], ◌∷◌, ◌++◌, All, codes}
 use Rattle.cadence_text.specs.Line.{container_field, kind_text, line_of, rate_field, tags_field, time_field}
 use Rattle.cadence_text.specs.Metric.{Metric}
-use Rattle.cadence_text.specs.OneReading.{IsNoSeparator}
+use Rattle.cadence_text.specs.OneReading.{IsClear, IsNoSeparator}
 use Rattle.cadence_value.specs.Finds.{HasNone}
 use Rattle.cadence_value.specs.Number.{numbers_text}
-use Rattle.cadence_read.specs.Listed.{IsListed}
 use Rattle.cadence_read.specs.declared.any_line.AnyLine.{AnyLine}
 use Rattle.cadence_read.specs.declared.any_line.AnyLine.TheVariants.{Event, MetricLine, Opaque, ServiceCheck}
 use Rattle.cadence_read.specs.declared.any_line.MetricParts.{MetricParts}
@@ -68,9 +67,9 @@ own_parts m = record {
   fields = rate_field m.rate ++ (tags_field m.tags ++ (container_field m.container ++ time_field m.time));
 }
 
--- A line has at most one way to be cut. The line of a metric that can be read is neither an event nor a service check, and
--- its parts are the texts of the metric.
+-- A line has at most one way to be cut. The line of a clear metric is neither an event nor a service check, and its parts
+-- are the texts of the metric.
 pub record CutsOwnLines : Type 0 where
   pub once : (line : List ℕ) (p q : Parts) → IsCut line p → IsCut line q → p ≡ q
-  pub other : (m : Metric) → IsListed m → IsOther (line_of m)
-  pub own : (m : Metric) → IsListed m → IsCut (line_of m) (own_parts m)
+  pub other : (m : Metric) → IsClear m → IsOther (line_of m)
+  pub own : (m : Metric) → IsClear m → IsCut (line_of m) (own_parts m)

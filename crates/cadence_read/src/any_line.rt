@@ -100,8 +100,9 @@ pub fn cut_line(line: &[u8]) -> AnyLine<'_>
     }
 }
 
-/// States how lines are cut: there is at most one way, and the line of a metric that can be read is cut into the metric's
-/// texts. Proofs cite it. The function does nothing when it runs.
+/// States how lines are cut: there is at most one way, and the line of a clear metric is cut into the metric's texts. A
+/// metric is clear if no text of it has a separator, except colons after the keys of tags. Proofs cite it. The function
+/// does nothing when it runs.
 pub fn cuts_own_lines()
     ensures { CutsOwnLines }
 {}

@@ -5,7 +5,7 @@ use Rattle.std.specs.List.{concat, zip}
 use Rattle.std.specs.Option.{option_map}
 use Rattle.cadence_text.specs.Line.{line_of}
 use Rattle.cadence_text.specs.Metric.{Metric}
-use Rattle.cadence_text.specs.OneReading.{IsFreeOfSeparators}
+use Rattle.cadence_text.specs.OneReading.{IsClear, IsFreeOfSeparators}
 use Rattle.cadence_text.specs.Representable.{IsRepresentable}
 use Rattle.cadence_flow.specs.Frame.{Format, size_of, stream, taken_stream}
 use Rattle.cadence_flow.specs.Writer.{PacketHistory, WriterKind, Extends}
@@ -153,10 +153,15 @@ module _ {W A : Type 0} (history : W → PacketHistory) (given : Given A) (outco
     -- With the newline as ending, and kept metrics that are free of separators: a listener reads the kept metrics, and
     -- no others.
     pub one_reading : ReportsWhole given.kind → given.format.ending ≡ codes "\n" → All IsFreeOfSeparators (kept given.metric_of turns_of)
-        → ReadsAs (kept given.metric_of turns_of) packets_of_run outcome.held
-    -- With strict settings, the kept metrics are free of separators, whatever texts the calls have.
-    pub strict_free : given.strict ≡ true → All IsFreeOfSeparators (kept given.metric_of turns_of)
-    -- With the newline as ending and strict settings, a listener reads the kept metrics, and no others, whatever texts
-    -- the calls have.
+        → ReadsAs IsFreeOfSeparators (kept given.metric_of turns_of) packets_of_run outcome.held
+    -- With the newline as ending, and kept metrics that are clear, so that tags may have colons after their keys: the
+    -- packets and the held text can be read as the kept metrics, and as no other clear metrics.
+    pub clear_reading : ReportsWhole given.kind → given.format.ending ≡ codes "\n" → All IsClear (kept given.metric_of turns_of)
+        → ReadsAs IsClear (kept given.metric_of turns_of) packets_of_run outcome.held
+    -- With strict settings, the kept metrics are clear, whatever texts the calls have: no text of them has a separator,
+    -- except colons after the keys of tags.
+    pub strict_clear : given.strict ≡ true → All IsClear (kept given.metric_of turns_of)
+    -- With the newline as ending and strict settings, the packets and the held text can be read as the kept metrics, and
+    -- as no other clear metrics, whatever texts the calls have.
     pub strict_reading : ReportsWhole given.kind → given.format.ending ≡ codes "\n" → given.strict ≡ true
-        → ReadsAs (kept given.metric_of turns_of) packets_of_run outcome.held
+        → ReadsAs IsClear (kept given.metric_of turns_of) packets_of_run outcome.held

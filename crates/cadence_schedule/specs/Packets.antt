@@ -2,7 +2,7 @@
 use Rattle.std.specs.Prelude.{◌≡◌, ◌≢◌, ℕ, List, [], ◌∷◌, ◌++◌, length, map, All, Contains, true, false}
 use Rattle.std.specs.List.{AllZip, flat_map}
 use Rattle.cadence_text.specs.Metric.{Metric}
-use Rattle.cadence_text.specs.OneReading.{IsFreeOfSeparators, IsPacketOf}
+use Rattle.cadence_text.specs.OneReading.{IsPacketOf}
 use Rattle.cadence_flow.specs.Frame.{Format, is_oversize, size_of, stream, held_packet}
 use Rattle.cadence_schedule.specs.Plan.{groups_of, IsAdmissible}
 
@@ -18,14 +18,15 @@ pub record ArePacketsOf (format : Format) (marks refusals : List ℕ) (lines : L
   pub holds : (before : List (List ℕ)) (line : List ℕ) → lines ≡ before ++ line ∷ [] → is_oversize format line ≡ false
       → ¬ Contains marks (length lines) → ¬ Contains refusals (length lines) → held ≢ []
 
--- The packet has the lines of these metrics, which are free of separators, and of no other list of such metrics.
-pub record IsPacketOfOnly (metrics : List Metric) (packet : List ℕ) : Type 0 where
-  pub free : All IsFreeOfSeparators metrics
+-- The packet has the lines of these metrics, which all have the property, and of no other list of metrics that have it.
+pub record IsPacketOfOnly (Has : Metric → Type 0) (metrics : List Metric) (packet : List ℕ) : Type 0 where
+  pub each : All Has metrics
   pub reads : IsPacketOf metrics packet
-  pub only : (others : List Metric) → All IsFreeOfSeparators others → IsPacketOf others packet → others ≡ metrics
+  pub only : (others : List Metric) → All Has others → IsPacketOf others packet → others ≡ metrics
 
--- Each packet, and the held text if it is not empty, can be read as exactly one list of metrics, and these lists,
--- joined, are the metrics.
-abbrev pub ReadsAs : List Metric → List (List ℕ) → List ℕ → Type 0
-ReadsAs metrics packets held =
-    (lists : List (List Metric)) × (flat_map (λ list. list) lists ≡ metrics) × AllZip IsPacketOfOnly lists (packets ++ held_packet held)
+-- Each packet, and the held text if it is not empty, can be read as exactly one list of metrics that have the property,
+-- and these lists, joined, are the metrics.
+abbrev pub ReadsAs : (Metric → Type 0) → List Metric → List (List ℕ) → List ℕ → Type 0
+ReadsAs Has metrics packets held =
+    (lists : List (List Metric)) × (flat_map (λ list. list) lists ≡ metrics)
+    × AllZip (IsPacketOfOnly Has) lists (packets ++ held_packet held)

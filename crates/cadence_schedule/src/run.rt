@@ -13,7 +13,7 @@ use super::reports::Report;
 use super::steps::Step;
 use cadence_flow::io::{CountingWriter, PacketWriter};
 use cadence_queue::QueuePolicy;
-use cadence_settings::{ClientSettings, strict_calls_are_free};
+use cadence_settings::{ClientSettings, strict_calls_are_clear};
 use cadence_text::laws::no_line_is_empty;
 use std::alloc::Allocator;
 
@@ -26,7 +26,7 @@ use std::alloc::Allocator;
 ///
 /// - `Call` formats the line of a call with the settings and puts it into the queue. If the queue is full, `policy`
 ///   says whether the call is refused or the oldest line is dropped for it. Strict settings refuse a call that has a
-///   separator in a text, before they look at the queue.
+///   separator in a text, other than a colon after the key of a tag, before they look at the queue.
 /// - `Take` moves the oldest line of the queue into the worker's hand, which has one line at most.
 /// - `Hand` gives the line in hand to the packer. The packer appends it and `ending` to the text that it holds. If
 ///   there is no room, it sends the held text as a packet first. A line that with its ending passes the capacity is
@@ -50,8 +50,9 @@ use std::alloc::Allocator;
 /// 5. If the writer refused no packet, no way to pack the same lines that ends a packet at each flush has fewer
 ///    packets.
 ///
-/// If the settings are strict and each line ends in a newline, a listener reads from the packets the metrics of the kept
-/// lines and no others, whatever texts the calls have.
+/// If the settings are strict and each line ends in a newline, the packets can be read as the metrics of the kept lines,
+/// and as no other clear metrics, whatever texts the calls have. A metric is clear if no text of it has a separator,
+/// except colons after the keys of tags.
 ///
 /// Number 3 holds for every writer, number 4 for one that takes each packet whole or refuses it, and the others for one
 /// that does so and reports its packets to contracts. The Rust crate has no such function.
@@ -79,7 +80,7 @@ pub fn run_schedule_with<W: PacketWriter, A: Allocator + Clone>(
     no_line_is_empty();
     tight_is_fewest();
     packets_read_one_way();
-    strict_calls_are_free();
+    strict_calls_are_clear();
     let _ = settings.is_strict();
     let Ok((replies, queue)) = lists_of_run(&alloc, steps.len(), queue, policy) else {
         return Err(writer);

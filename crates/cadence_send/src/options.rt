@@ -48,7 +48,8 @@ pub struct Options<'a, A: Allocator> {
     pub flush_every: Option<u64>,
     /// Whether lines are added up before they are packed.
     pub is_adding_up: bool,
-    /// Whether the settings are strict, so that they refuse each text that has a separator.
+    /// Whether the settings are strict, so that they refuse each text that has a separator, other than a colon after the
+    /// key of a tag.
     pub is_strict: bool,
     /// Whether packets are printed instead of sent.
     pub is_printing: bool,

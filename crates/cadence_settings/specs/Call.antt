@@ -10,7 +10,7 @@ use Rattle.cadence_text.specs.Draft.{Draft, draft_of}
 use Rattle.cadence_text.specs.Metric.{Metric, Tag}
 use Rattle.cadence_text.specs.Representable.{IsRepresentable}
 use Rattle.cadence_value.specs.Number.{Number}
-use Rattle.cadence_text.specs.FreeTexts.{is_free_text, is_free_tag}
+use Rattle.cadence_text.specs.FreeTexts.{is_free_text, is_clear_tag}
 use Rattle.cadence_settings.specs.Settings.{Settings}
 
 -- what one option of a call chooses: a tag, the container, the time or the sampling rate
@@ -67,24 +67,24 @@ plain_call kind key numbers = record { kind = kind; key = key; numbers = numbers
 abbrev pub with_choice : MetricCall → Choice → MetricCall
 with_choice c o = record c { choices = c.choices ++ o ∷ [] }
 
--- whether no text of the option has a separator
-abbrev pub is_free_choice : Choice → Bool
-is_free_choice (tagged t) = is_free_tag t
-is_free_choice (contained c) = is_free_text c
-is_free_choice (timed n) = true
-is_free_choice (rated r) = true
+-- whether the option is clear: it has no separator in a text, except colons after the key of a tag
+abbrev pub is_clear_choice : Choice → Bool
+is_clear_choice (tagged t) = is_clear_tag t
+is_clear_choice (contained c) = is_free_text c
+is_clear_choice (timed n) = true
+is_clear_choice (rated r) = true
 
--- whether no text of the call has a separator: neither its key nor a tag or a container that it sets
-abbrev pub is_free_call : MetricCall → Bool
-is_free_call c = list_all is_free_choice c.choices && is_free_text c.key
+-- whether the call is clear: its key has no separator, and each option of it is clear
+abbrev pub is_clear_call : MetricCall → Bool
+is_clear_call c = list_all is_clear_choice c.choices && is_free_text c.key
 
--- whether the settings allow the option: each option, or if they are strict, each one without a separator
+-- whether the settings allow the option: each option, or if they are strict, each clear one
 abbrev pub allows_choice : Settings → Choice → Bool
-allows_choice s o = not s.strict || is_free_choice o
+allows_choice s o = not s.strict || is_clear_choice o
 
--- whether the settings allow the call: each call, or if they are strict, each one without a separator
+-- whether the settings allow the call: each call, or if they are strict, each clear one
 abbrev pub allows_call : Settings → MetricCall → Bool
-allows_call s c = not s.strict || is_free_call c
+allows_call s c = not s.strict || is_clear_call c
 
 -- The metric of a call. Its name is the prefix and the key; its tags are the default tags and then the call's own; its
 -- container is the last one that the call sets, or the default one if there is none; its rate and its time are the last

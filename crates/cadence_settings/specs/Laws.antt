@@ -1,8 +1,8 @@
 -- Laws that follow from the definitions. src/laws.rt has a function for each, whose contract is the law.
 use Rattle.std.specs.Prelude.{◌≡◌, IsTrue}
-use Rattle.cadence_text.specs.OneReading.{IsFreeOfSeparators}
+use Rattle.cadence_text.specs.OneReading.{IsClear}
 use Rattle.cadence_settings.specs.Call.{Choice, MetricCall, allows_call, chosen, metric_of_call, with_choice}
-use Rattle.cadence_settings.specs.Settings.{Settings, is_free_settings}
+use Rattle.cadence_settings.specs.Settings.{Settings, is_clear_settings}
 
 -- Applying an option to the metric of a call gives the metric of the call with that option added.
 abbrev pub OptionsAreChosen : Type 0
@@ -10,9 +10,8 @@ OptionsAreChosen =
     (settings : Settings) (call : MetricCall) (option : Choice)
     → chosen (metric_of_call settings call) option ≡ metric_of_call settings (with_choice call option)
 
--- If settings are strict and no text of them has a separator, the metric of each call that they allow is free of
--- separators.
-abbrev pub StrictCallsAreFree : Type 0
-StrictCallsAreFree =
-    (settings : Settings) (call : MetricCall) → IsTrue settings.strict → IsTrue (is_free_settings settings)
-    → IsTrue (allows_call settings call) → IsFreeOfSeparators (metric_of_call settings call)
+-- If settings are strict and clear, the metric of each call that they allow is clear.
+abbrev pub StrictCallsAreClear : Type 0
+StrictCallsAreClear =
+    (settings : Settings) (call : MetricCall) → IsTrue settings.strict → IsTrue (is_clear_settings settings)
+    → IsTrue (allows_call settings call) → IsClear (metric_of_call settings call)

@@ -5,7 +5,7 @@ use Rattle.std.specs.List.{list_all}
 use Rattle.cadence_errors.specs.Errors.{IsInvalid, out_of_memory}
 use Rattle.cadence_errors.specs.declared.MetricError.{MetricError}
 use Rattle.cadence_text.specs.Metric.{Tag}
-use Rattle.cadence_text.specs.FreeTexts.{is_free_text, is_free_if_any, is_free_tag}
+use Rattle.cadence_text.specs.FreeTexts.{is_free_text, is_free_if_any, is_clear_tag}
 
 -- the prefix as each line begins with it, the default tags in their order, the default container, and whether the
 -- settings are strict: strict settings refuse each text that has a separator
@@ -47,17 +47,18 @@ with_default_container s container = record s { container = Some container }
 abbrev pub with_strict_texts : Settings → Settings
 with_strict_texts s = record s { strict = true }
 
--- whether no text of the settings has a separator: neither the prefix nor a default tag nor the default container
-abbrev pub is_free_settings : Settings → Bool
-is_free_settings s = is_free_text s.prefix && (list_all is_free_tag s.tags && is_free_if_any s.container)
+-- whether the settings are clear: neither the prefix nor the default container has a separator, and each default tag is
+-- clear
+abbrev pub is_clear_settings : Settings → Bool
+is_clear_settings s = is_free_text s.prefix && (list_all is_clear_tag s.tags && is_free_if_any s.container)
 
 -- whether the settings allow the text: each text, or if they are strict, each text without a separator
 abbrev pub allows_text : Settings → List ℕ → Bool
 allows_text s text = not s.strict || is_free_text text
 
--- whether the settings allow the tag: each tag, or if they are strict, each tag without a separator
+-- whether the settings allow the tag: each tag, or if they are strict, each clear tag
 abbrev pub allows_tag : Settings → Tag → Bool
-allows_tag s tag = not s.strict || is_free_tag tag
+allows_tag s tag = not s.strict || is_clear_tag tag
 
 -- The error says why a text was not taken: memory ran out if the text is allowed (`true`), and otherwise the text has a
 -- separator, which is an invalid input.

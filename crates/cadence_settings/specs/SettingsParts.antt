@@ -4,7 +4,7 @@ use Rattle.std.specs.Option.{option_map}
 use Rattle.cadence_text.specs.Line.{tags_field}
 use Rattle.cadence_text.specs.Owned.{tag_of_owned}
 use Rattle.cadence_settings.specs.declared.settings.ClientSettings.TheInside.{Inside}
-use Rattle.cadence_settings.specs.Settings.{Settings, is_free_settings}
+use Rattle.cadence_settings.specs.Settings.{Settings, is_clear_settings}
 
 -- the settings, from the fields of the Rust struct
 abbrev pub settings_seen : {Z : Type 0} → Inside Z → Settings
@@ -15,8 +15,8 @@ settings_seen s = record {
   strict = s.strict;
 }
 
--- What is true of the fields: the text of the tags is that of the default tags, and if the settings are strict, no text
--- of them has a separator.
+-- What is true of the fields: the text of the tags is that of the default tags, and if the settings are strict, they are
+-- clear.
 pub record IsInOrder {Z : Type 0} (s : Inside Z) : Type 0 where
   pub text : s.text ≡ tags_field (map tag_of_owned s.tags.items)
-  pub free : IsTrue s.strict → IsTrue (is_free_settings (settings_seen s))
+  pub clear : IsTrue s.strict → IsTrue (is_clear_settings (settings_seen s))

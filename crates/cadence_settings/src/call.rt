@@ -3,10 +3,10 @@ ghost use Rattle.std.specs.Prelude.{◌≡◌, [], OnOk, map};
 ghost use Rattle.std.specs.List.{fold};
 ghost use Rattle.cadence_value.specs.Values.{Converts};
 ghost use Rattle.cadence_text.specs.Metric.{Metric};
-ghost use Rattle.cadence_settings.specs.Call.{IsDraftOf, chosen, is_free_call, is_free_choice};
+ghost use Rattle.cadence_settings.specs.Call.{IsDraftOf, chosen, is_clear_call, is_clear_choice};
 ghost use Rattle.cadence_settings.specs.CallData.{call_of, choice_of, kind_of_value, numbers_of_value};
 
-use super::settings::{tag_is_free, text_is_free};
+use super::settings::{tag_is_clear, text_is_free};
 use cadence_errors::MetricResult;
 use cadence_text::line::{DraftLine, MetricType, Tag};
 use cadence_value::decimal::Decimal;
@@ -136,13 +136,13 @@ impl<A: Allocator + Clone> CallValue<A> {
 }
 
 impl<A: Allocator> CallOption<A> {
-    // Returns whether no text of the option has a separator.
-    fn is_free(&self) -> bool
-        ensures { result ≡ is_free_choice (choice_of self.now) }
+    // Returns whether the option has no separator in its texts, except colons after the key of a tag.
+    fn is_clear(&self) -> bool
+        ensures { result ≡ is_clear_choice (choice_of self.now) }
     {
         match self {
-            CallOption::Tag(key, text) => tag_is_free(Some(key.as_str()), text.as_str()),
-            CallOption::TagValue(text) => tag_is_free(None, text.as_str()),
+            CallOption::Tag(key, text) => tag_is_clear(Some(key.as_str()), text.as_str()),
+            CallOption::TagValue(text) => tag_is_clear(None, text.as_str()),
             CallOption::Container(text) => text_is_free(text.as_str()),
             CallOption::Time(_) | CallOption::Rate(_) => true,
         }
@@ -150,12 +150,12 @@ impl<A: Allocator> CallOption<A> {
 }
 
 impl<A: Allocator> Call<A> {
-    // Returns whether no text of the call has a separator.
-    pub(crate) fn is_free(&self) -> bool
-        ensures { result ≡ is_free_call (call_of self.now []) }
+    // Returns whether the call has no separator in its texts, except colons after the keys of tags.
+    pub(crate) fn is_clear(&self) -> bool
+        ensures { result ≡ is_clear_call (call_of self.now []) }
     {
         for option in &self.options {
-            if !option.is_free() {
+            if !option.is_clear() {
                 return false;
             }
         }

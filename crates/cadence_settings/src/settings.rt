@@ -23,7 +23,7 @@ use cadence_text::line::{DraftLine, Head, MetricType, OwnedTag, Tag, TagsText, l
 use cadence_value::value::MetricValue;
 use std::alloc::{AllocError, Allocator, Global};
 use std::marker::Model;
-pub use strict::{DraftError, Separator, tag_is_free, text_is_free};
+pub use strict::{DraftError, Separator, tag_is_clear, text_is_free};
 
 // How many bytes a draft reserves for the tags and other options of the call itself.
 const OWN_BYTES: usize = 96;
@@ -55,7 +55,8 @@ pub fn formatted_prefix<A: Allocator>(alloc: A, prefix: &str) -> Result<String<A
 }
 
 /// What a client adds to each call: its prefix, its default tags and its default container. Settings can be strict: then
-/// they refuse each text with a colon, a comma, a bar or a newline, so that no text can change another metric.
+/// they refuse each text with a colon, a comma, a bar or a newline, so that no text can change another metric. The text
+/// of a tag with a key may have colons, because the first colon of a tag ends its key.
 ///
 /// Contracts see the value as a `Settings` of the definitions.
 #[derive(Drop)]
@@ -114,14 +115,14 @@ impl<A: Allocator + Clone> ClientSettings<A> {
         ensures { result ≡ allows_tag self.now
             (record { key = option_copied key.entry; text = text.now }) }
     {
-        !self.strict || tag_is_free(key, text)
+        !self.strict || tag_is_clear(key, text)
     }
 
     /// Adds a default tag after those that the settings have: `key:text`, or `text` alone if `key` is `None`.
     ///
     /// # Errors
     /// An error of kind `InvalidInput` (`separator in a text`) if and only if the settings are strict and a text of the
-    /// tag has a separator. Otherwise `SinkError::OutOfMemory`. After an error the settings are unchanged.
+    /// tag has a separator, other than a colon after a key. Otherwise `SinkError::OutOfMemory`. After an error the settings are unchanged.
     pub fn add_tag(&mut self, key: Option<&str>, text: &str) -> MetricResult<()>
         ensures ok { OnOk result (self.new ≡
             with_default_tag self.old (record { key = option_copied key.entry; text = text.now })) }
@@ -310,8 +311,8 @@ impl<A: Allocator + Clone> ClientSettings<A> {
     /// # Errors
     /// An error of kind `InvalidInput` if and only if a duration of the call passes `u64::MAX` in the unit of its kind
     /// (`u64 overflow`), which is milliseconds for a timer and nanoseconds for a histogram, or the settings are strict
-    /// and a text of the call has a separator (`separator in a text`). If both are true, the error is the first one.
-    /// Otherwise the only error is `SinkError::OutOfMemory`.
+    /// and a text of the call has a separator (`separator in a text`), other than a colon after the key of a tag. If both
+    /// are true, the error is the first one. Otherwise the only error is `SinkError::OutOfMemory`.
     pub fn line_of<'a>(&'a self, call: &'a Call<A>) -> MetricResult<String<A>>
         ensures line { IfOk result (λ line.
             line_of_data self.now call.now ≡ Some (string_bytes line)) }

@@ -3,26 +3,30 @@ use Rattle.std.specs.Prelude.{◌≡◌, ℕ, ◌<◌, ◌↔◌, List, Option, 
 use Rattle.std.specs.List.{list_all}
 use Rattle.cadence_text.specs.Line.{line_of}
 use Rattle.cadence_text.specs.Metric.{Metric, Tag}
-use Rattle.cadence_text.specs.OneReading.{IsFreeOfSeparators, IsFreeTag, IsFreeText, IsPacketOf}
-use Rattle.cadence_text.specs.FreeTexts.{is_free_text, is_free_if_any, is_free_tag}
+use Rattle.cadence_text.specs.OneReading.{IsClear, IsClearTag, IsFreeOfSeparators, IsFreeText, IsPacketOf}
+use Rattle.cadence_text.specs.FreeTexts.{is_clear_tag, is_free_text, is_free_if_any}
 
--- If two metrics are free of separators and have the same line, they are the same metric.
+-- If two metrics are clear and have the same line, they are the same metric.
 abbrev pub LineReadsOneWay : Type 0
-LineReadsOneWay = (a b : Metric) → IsFreeOfSeparators a → IsFreeOfSeparators b → line_of a ≡ line_of b → a ≡ b
+LineReadsOneWay = (a b : Metric) → IsClear a → IsClear b → line_of a ≡ line_of b → a ≡ b
 
--- If a packet is the packet of two lists of metrics that are free of separators, they are the same list.
+-- If a packet is the packet of two lists of clear metrics, they are the same list.
 abbrev pub PacketReadsOneWay : Type 0
 PacketReadsOneWay =
     (xs ys : List Metric) (packet : List ℕ)
-    → All IsFreeOfSeparators xs → All IsFreeOfSeparators ys → IsPacketOf xs packet → IsPacketOf ys packet → xs ≡ ys
+    → All IsClear xs → All IsClear ys → IsPacketOf xs packet → IsPacketOf ys packet → xs ≡ ys
+
+-- A metric without separators is clear.
+abbrev pub FreeIsClear : Type 0
+FreeIsClear = (metric : Metric) → IsFreeOfSeparators metric → IsClear metric
 
 -- No line is empty.
 abbrev pub NoLineIsEmpty : Type 0
 NoLineIsEmpty = (metric : Metric) → 0 < length (line_of metric)
 
--- The tests of texts and tags are true if and only if the text, the tag or each tag of the list has no separator.
-pub record FreeTextsPass : Type 0 where
+-- The tests are true if and only if the text has no separator, or the tag or each tag of the list is clear.
+pub record ClearTextsPass : Type 0 where
   pub texts : (text : List ℕ) → IsTrue (is_free_text text) ↔ IsFreeText text
   pub any : (text : Option (List ℕ)) → IsTrue (is_free_if_any text) ↔ IfSome text IsFreeText
-  pub tag : (tag : Tag) → IsTrue (is_free_tag tag) ↔ IsFreeTag tag
-  pub tags : (tags : List Tag) → IsTrue (list_all is_free_tag tags) ↔ All IsFreeTag tags
+  pub tag : (tag : Tag) → IsTrue (is_clear_tag tag) ↔ IsClearTag tag
+  pub tags : (tags : List Tag) → IsTrue (list_all is_clear_tag tags) ↔ All IsClearTag tags

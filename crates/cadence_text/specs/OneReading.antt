@@ -1,5 +1,5 @@
--- Metrics whose lines can be read in one way only, because no text in them has a separator.
-use Rattle.std.specs.Prelude.{◌≡◌, ◌≢◌, ◌<◌, ◌↔◌, ℕ, ◌⊎◌, List, [], ◌∷◌, ◌++◌, All, IfSome, codes, slice_index}
+-- Metrics whose lines can be read in one way only, because each text in them ends where it seems to end.
+use Rattle.std.specs.Prelude.{◌≡◌, ◌≢◌, ◌<◌, ◌↔◌, ℕ, ◌⊎◌, List, [], ◌∷◌, ◌++◌, All, IfSome, Option, None, Some, codes, slice_index}
 use Rattle.std.specs.List.{flat_map}
 use Rattle.cadence_text.specs.Metric.{Metric, Tag}
 use Rattle.cadence_text.specs.Line.{line_of}
@@ -7,6 +7,10 @@ use Rattle.cadence_text.specs.Line.{line_of}
 -- The byte is none of the separators `:`, `,`, `|` and newline.
 abbrev pub IsNoSeparator : ℕ → Type 0
 IsNoSeparator byte = (byte ≢ 58) × (byte ≢ 44) × (byte ≢ 124) × (byte ≢ 10)
+
+-- The byte is none of the separators `,`, `|` and newline, each of which ends a tag.
+abbrev pub IsNoTagEnd : ℕ → Type 0
+IsNoTagEnd byte = (byte ≢ 44) × (byte ≢ 124) × (byte ≢ 10)
 
 -- The table has a flag for each byte, and the flag is zero if and only if the byte is no separator.
 unfoldable pub AreSeparatorFlags : List ℕ → Type 0
@@ -25,6 +29,26 @@ pub record IsFreeTag (tag : Tag) : Type 0 where
 pub record IsFreeOfSeparators (metric : Metric) : Type 0 where
   pub name : IsFreeText metric.name
   pub tags : All IsFreeTag metric.tags
+  pub container : IfSome metric.container IsFreeText
+
+-- The text has no separator but colons. So it can follow the key of a tag, because the first colon of a tag ends the key.
+abbrev pub IsFreeAfterKey : List ℕ → Type 0
+IsFreeAfterKey text = All IsNoTagEnd text
+
+-- The text of a tag can follow its key: if there is a key, the text has no separator but colons, and otherwise none.
+abbrev pub IsClearAfter : Option (List ℕ) → List ℕ → Type 0
+IsClearAfter None text = IsFreeText text
+IsClearAfter (Some key) text = IsFreeAfterKey text
+
+-- The tag is clear: its key, if it has one, has no separator, and its text can follow the key.
+pub record IsClearTag (tag : Tag) : Type 0 where
+  pub key : IfSome tag.key IsFreeText
+  pub text : IsClearAfter tag.key tag.text
+
+-- The metric is clear: its name and its container id have no separator, and each of its tags is clear.
+pub record IsClear (metric : Metric) : Type 0 where
+  pub name : IsFreeText metric.name
+  pub tags : All IsClearTag metric.tags
   pub container : IfSome metric.container IsFreeText
 
 -- the lines of the metrics, each with a newline after it

@@ -16,7 +16,7 @@ mod window;
 use cadence_value::text::PieceWriter;
 pub use draft::{DraftLine, Head, TagsText};
 pub use record::{OwnedMetric, Record};
-pub use separators::{first_separator, is_free};
+pub use separators::{first_separator, is_free, is_free_after_key};
 use std::fmt;
 pub use tag::{OwnedTag, Tag, lend_tag, lend_tags};
 

@@ -15,9 +15,9 @@ use Rattle.cadence_events.specs.declared.refusal.Unfit.TheVariants as unfit
 use Rattle.cadence_events.specs.declared.service_check.ServiceStatus.{ServiceStatus}
 use Rattle.cadence_text.specs.Record.{tag_of}
 use Rattle.cadence_text.specs.declared.line.tag.Tag.{Tag as BorrowedTag}
-use Rattle.cadence_text.specs.FreeTexts.{is_free_if_any, is_free_tag, is_free_text}
+use Rattle.cadence_text.specs.FreeTexts.{is_free_if_any, is_clear_tag, is_free_text}
 use Rattle.cadence_text.specs.Metric.{Tag}
-use Rattle.cadence_text.proofs.grammar.FreeTexts.{free_tag_from}
+use Rattle.cadence_text.proofs.grammar.FreeTexts.{clear_tag_from}
 use Rattle.cadence_words.proofs.WordByWord.{rest_of, texts, three_words}
 use Rattle.cadence_words.specs.Asked.{IsTagWord, IsWord}
 use Rattle.cadence_words.specs.Events.{IsLineOfCheck, IsLineOfEvent, NamesStatus, asked_check, asked_event, word_error_of}
@@ -33,13 +33,13 @@ firsts (k ∷ []) long = absurd (omega (arith, long))
 firsts (k ∷ a ∷ []) long = absurd (omega (arith, long))
 firsts (k ∷ a ∷ b ∷ words) long = (k.now, a.now, b.now, three_words (k ∷ a ∷ b ∷ words) k a b long)
 
--- Tags that words say have no separator.
-tags_free : (words : List (List ℕ)) (tags : List Tag) → AllZip IsTagWord words tags → list_all is_free_tag tags ≡ true
-tags_free [] [] h = refl
-tags_free [] (t ∷ tags) h = absurd h
-tags_free (w ∷ words) [] h = absurd h
-tags_free (w ∷ words) (t ∷ tags) h =
-    and_from (is_free_tag t) (list_all is_free_tag tags) (free_tag_from t h.0.free) (tags_free words tags h.1)
+-- Tags that words say are clear.
+tags_clear : (words : List (List ℕ)) (tags : List Tag) → AllZip IsTagWord words tags → list_all is_clear_tag tags ≡ true
+tags_clear [] [] h = refl
+tags_clear [] (t ∷ tags) h = absurd h
+tags_clear (w ∷ words) [] h = absurd h
+tags_clear (w ∷ words) (t ∷ tags) h =
+    and_from (is_clear_tag t) (list_all is_clear_tag tags) (clear_tag_from t h.0.clear) (tags_clear words tags h.1)
 
 -- The event and the service check of tags that are kept in one list are those of the same tags in another one.
 pub event_of_tags : (time : Option ℕ) (f : Fields) (title text : List ℕ) (given kept : List BorrowedTag) (e : Event)
@@ -87,7 +87,7 @@ module _ {Z : Type 0} (d : Defaults Z) (f : Fields) (k a b : List ℕ) (others w
   same_event tags tags' h h' =
       ap (λ free. first_failed ((is_free_if_any (option_copied f.host), unfit.Host) ∷ (is_free_if_any (option_copied f.key), unfit.AggregationKey)
       ∷ (is_free_if_any (option_copied f.source), unfit.SourceType) ∷ (free, unfit.Tags) ∷ (true, unfit.Container) ∷ []))
-      (tags_free others tags h ∙ sym (tags_free others tags' h'))
+      (tags_clear others tags h ∙ sym (tags_clear others tags' h'))
 
   module _ (tags : List Tag) (each : AllZip IsTagWord others tags) (e : Event) (asked : e ≡ asked_event d.time f a b tags) (line : List ℕ) where
     -- The line that was made is that of the event that the words ask for.
@@ -129,7 +129,7 @@ module _ {Z : Type 0} (d : Defaults Z) (f : Fields) (k a b : List ℕ) (others w
   same_check s s' tags tags' h h' =
       ap (λ free. first_failed ((is_free_text a, unfit.Name) ∷ (is_free_if_any (option_copied f.host), unfit.Host) ∷ (free, unfit.Tags)
       ∷ (true, unfit.Container) ∷ (has_no_bar (option_copied f.message), unfit.Message) ∷ []))
-      (tags_free others tags h ∙ sym (tags_free others tags' h'))
+      (tags_clear others tags h ∙ sym (tags_clear others tags' h'))
 
   module _ (s : ServiceStatus) (tags : List Tag) (each : AllZip IsTagWord others tags) (c : ServiceCheck)
       (asked : c ≡ asked_check d.time f a s tags) (line : List ℕ) where

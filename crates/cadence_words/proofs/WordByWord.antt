@@ -25,7 +25,7 @@ use Rattle.cadence_settings.specs.Settings.{Settings}
 use Rattle.cadence_text.proofs.grammar.LineText.{key_text-keyed, keyed_text, plain_lacks_colon}
 use Rattle.cadence_text.specs.declared.line.MetricType.{MetricType}
 use Rattle.cadence_text.specs.Metric.{Metric, Tag, with_tag}
-use Rattle.cadence_text.specs.OneReading.{IsFreeText}
+use Rattle.cadence_text.specs.OneReading.{IsClearAfter, IsFreeAfterKey, IsFreeText}
 use Rattle.cadence_value.proofs.lists.SplitTexts.{Lacks, cut_at, lacks_no}
 use Rattle.cadence_value.specs.Number.{Number}
 
@@ -123,16 +123,24 @@ too_many kind word words ns is other unpacked h = elim h.few [
 
 -- If the word of a tag has a colon, then the key is the text before the first colon.
 pub tag_keyed : (tag : Tag) (word key text : List ℕ) → All (λ b. b ≢ 58) key → word ≡ key ++ 58 ∷ text → IsTagWord word tag
-    → IsFreeText key × IsFreeText text
-tag_keyed tag word key text front cut h = by_key tag.key tag.text h.free.key h.free.text (sym (key_text-keyed tag.key tag.text) ∙ h.whole ∙ cut)
+    → IsFreeText key × IsFreeAfterKey text
+tag_keyed tag word key text front cut h = by_key tag.key tag.text h.clear.key h.clear.text (sym (key_text-keyed tag.key tag.text) ∙ h.whole ∙ cut)
   where
-    by_key : (k : Option (List ℕ)) (s : List ℕ) → IfSome k IsFreeText → IsFreeText s → keyed_text k s ≡ key ++ (58 ∷ text)
-        → IsFreeText key × IsFreeText text
+    by_key : (k : Option (List ℕ)) (s : List ℕ) → IfSome k IsFreeText → IsClearAfter k s → keyed_text k s ≡ key ++ (58 ∷ text)
+        → IsFreeText key × IsFreeAfterKey text
     by_key (Some k) s hk hs e =
         let (same, rest) = cut_at 58 k key (58 ∷ s) (58 ∷ text) (plain_lacks_colon k hk) (recursion_from_All (λ b. b ≢ 58) key front) refl refl e in
         let tails : s ≡ text = cc in
-        (subst IsFreeText same hk, subst IsFreeText tails hs)
+        (subst IsFreeText same hk, subst IsFreeAfterKey tails hs)
     by_key None s hk hs e = absurd (lacks_no 58 key text (subst (Lacks 58) e (plain_lacks_colon s hs)))
+
+-- If the word of a tag has no colon, then it has no separator.
+pub tag_unkeyed : (tag : Tag) (word : List ℕ) → All (λ b. b ≢ 58) word → IsTagWord word tag → IsFreeText word
+tag_unkeyed tag word none h = by_key tag.key tag.text h.clear.text (sym (key_text-keyed tag.key tag.text) ∙ h.whole)
+  where
+    by_key : (k : Option (List ℕ)) (s : List ℕ) → IsClearAfter k s → keyed_text k s ≡ word → IsFreeText word
+    by_key (Some k) s hs e = absurd (lacks_no 58 k s (subst (Lacks 58) (sym e) (recursion_from_All (λ b. b ≢ 58) word none)))
+    by_key None s hs e = subst IsFreeText e hs
 
 -- The metric of a call without options has neither a rate nor a time.
 pub plain_rate : (s : Settings) (kind : MetricType) (name : List ℕ) (ns : List Number) → (metric_of_call s (plain_call kind name ns)).rate ≡ None

@@ -8,7 +8,7 @@ use Rattle.cadence_text.specs.declared.line.MetricType.TheVariants.{Counter, Tim
 use Rattle.cadence_text.specs.Draft.{Draft, draft_of}
 use Rattle.cadence_text.specs.Line.{kind_text, tag_text}
 use Rattle.cadence_text.specs.Metric.{Metric, Tag, with_tag}
-use Rattle.cadence_text.specs.OneReading.{IsFreeTag, IsFreeText}
+use Rattle.cadence_text.specs.OneReading.{IsClearTag, IsFreeText}
 use Rattle.cadence_words.specs.Finds.{FailsAsWord}
 use Rattle.cadence_errors.specs.declared.input_error.InputError.{InputError}
 use Rattle.cadence_words.specs.declared.word_error.Part.{Part}
@@ -45,10 +45,10 @@ NamesKind word kind = (word ≡ kind_text kind) ⊎ (word ≡ kind_name kind)
 abbrev pub IsWord : List ℕ → Type 0
 IsWord text = (0 < length text) × IsFreeText text
 
--- The word is the text of the tag. It is not empty, and neither the tag's key nor its text has a separator.
+-- The word is the text of the tag. It is not empty, and the tag is clear.
 pub record IsTagWord (word : List ℕ) (tag : Tag) : Type 0 where
   pub whole : tag_text tag ≡ word
-  pub free : IsFreeTag tag
+  pub clear : IsClearTag tag
   pub some : 0 < length word
 
 -- The number is whole and fits a signed integer of 64 bits.

@@ -58,7 +58,7 @@ impl Part {
             Part::Name => "NAME has no colon, comma, bar or newline, as in `c site.visits 1`",
             Part::Value(kind) => wanted_value(kind),
             Part::Tag => {
-                "TAG is K:V or V, and has no comma, bar or second colon, as in `c visits 1 page:home`"
+                "TAG is K:V or V, and has no comma, bar or newline, as in `c visits 1 page:home`"
             }
             Part::Length => "the line is longer than a datagram can be",
             Part::EventWords => {

@@ -7,7 +7,7 @@ ghost use Rattle.cadence_words.specs.Asked.{IsTagWord, IsWord, NamesKind, words_
 ghost use Rattle.cadence_value.specs.Finds.{Finds};
 ghost use Rattle.cadence_text.specs.Record.{tag_of};
 
-use cadence_text::line::{MetricType, Tag, is_free};
+use cadence_text::line::{MetricType, Tag, is_free, is_free_after_key};
 use cadence_value::bytes::split_text_once;
 use std::alloc::{AllocError, Allocator};
 use std::str;
@@ -49,8 +49,8 @@ pub(crate) fn utf8_text(bytes: &[u8]) -> Option<&str>
     str::from_utf8(bytes).ok()
 }
 
-/// Returns the tag that a word is: a key and a text with a colon between them, or a text alone. Returns `None` if the
-/// word is empty, or has a separator that a tag can't have.
+/// Returns the tag that a word is: a key and a text with a colon between them, or a text alone. The first colon ends the
+/// key, and the text may have more. Returns `None` if the word is empty, or has a comma, a bar or a newline.
 pub fn read_tag(word: &str) -> Option<Tag<'_>>
     ensures { Finds (IsTagWord word.now) (option_map tag_of result) }
 {
@@ -69,7 +69,7 @@ pub fn read_tag(word: &str) -> Option<Tag<'_>>
     if !is_free(key.as_bytes()) {
         return None;
     }
-    if !is_free(text.as_bytes()) {
+    if !is_free_after_key(text.as_bytes()) {
         return None;
     }
     Some(Tag {

@@ -38,7 +38,7 @@ const DROP: &str = "drops a packet if a Unix socket has no room for it, as --wai
 const WAIT: &str = "how long a pipe waits for room at a Unix socket; after that packets are
 lost until the socket takes one again [by default it waits for ever]";
 
-const STRICT: &str = "refuses tags of the environment that have a second colon";
+const STRICT: &str = "tests the tags of the environment for separators once more";
 
 const TARGET: &str = "Target";
 

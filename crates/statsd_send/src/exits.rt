@@ -40,7 +40,7 @@ pub fn exit_without_environment(rt: &HostRuntime, error: EnvironmentError) -> Ex
 pub fn exit_without_defaults(rt: &HostRuntime, error: MetricError) -> ExitCode {
     if error.kind() == MetricErrorKind::InvalidInput {
         let why =
-            "--strict wants tags of the environment without a second colon, as in DD_TAGS=team:shop";
+            "--strict wants tags of the environment without commas, bars and newlines, as in DD_TAGS=team:shop";
         return exit_with_error(rt, 2, why);
     }
     exit_with_error(rt, 3, OUT_OF_MEMORY)

@@ -70,7 +70,8 @@ class StatsClient(Metrics):
 
     If `strict` is set, a call with a colon, a comma, a bar or a newline in its name, in a tag, in the container or in the
     text of a set is refused with a StatusError of the status SEPARATOR, and no line of it is kept. So no text can make,
-    change or split a metric. Tags with keys are then dicts or pairs, because a text as "page:home" has a colon. The
+    change or split a metric. Tags with keys are then dicts or pairs, because a text as "page:home" has a colon. The value
+    of such a tag may have colons, as in {"url": "http://x"}, because the first colon of a tag ends its key. The
     constructor raises this error if the prefix, a tag or the container of the client has such a character.
 
     If `telemetry` is a prefix, the client sends its own counts: a flush first keeps a counter for each of `packets_sent`,

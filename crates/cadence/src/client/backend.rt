@@ -18,7 +18,7 @@ pub trait MetricBackend: Sealed {
     ghost use Rattle.std.specs.Prelude.{◌≡◌, ℕ, IsTrue, List, Result};
     ghost use Rattle.cadence_errors.specs.declared.SinkError.{SinkError};
     ghost use Rattle.cadence.specs.Sending.{SendsText};
-    ghost use Rattle.cadence_settings.specs.Settings.{Settings, is_free_settings};
+    ghost use Rattle.cadence_settings.specs.Settings.{Settings, is_clear_settings};
 
     /// The allocator of its metrics.
     type Memory: Allocator + Clone;
@@ -34,11 +34,11 @@ pub trait MetricBackend: Sealed {
     fn send_metric<M: Metric>(&self, metric: &M) -> MetricResult<()>
         ensures { SendsText (line_may_get self.now) (M.metric_text metric.now) result };
 
-    /// Returns whether the client refuses each call with a key, tag or container that has a separator. Its prefix and its
-    /// defaults have none then. `send_metric` sends any text.
+    /// Returns whether the client refuses each call with a key, tag or container that has a separator, other than a colon
+    /// after the key of a tag. Its prefix and its defaults have none then. `send_metric` sends any text.
     fn is_strict(&self) -> bool
         ensures strict { result ≡ (settings self.now).strict }
-        ensures free { IsTrue result → IsTrue (is_free_settings (settings self.now)) };
+        ensures clear { IsTrue result → IsTrue (is_clear_settings (settings self.now)) };
 
     /// Gives an error to the handler, or drops it if the client has no handler.
     fn consume_error(&self, err: MetricError);

@@ -13,7 +13,7 @@ use crate::client::statsd_client::StatsdClient;
 use crate::laws::choosing_stands_for_more;
 use crate::types::Metric;
 use cadence_errors::{MetricError, MetricResult};
-use cadence_settings::{DraftError, Separator, tag_is_free, text_is_free};
+use cadence_settings::{DraftError, Separator, tag_is_clear, text_is_free};
 use cadence_text::line::{DraftLine, Tag};
 use cadence_value::decimal::Decimal;
 use std::marker::PhantomData;
@@ -105,7 +105,7 @@ impl<'m, 'c, T: Metric + From<String<C::Memory>>, C: MetricBackend> MetricBuilde
         let Ok(draft) = &mut self.draft else {
             return;
         };
-        if self.client.is_strict() && !tag_is_free(key, text) {
+        if self.client.is_strict() && !tag_is_clear(key, text) {
             return self.fail(DraftError::Unusable(Separator));
         }
         if draft.add_tag(Tag { key, text }).is_err() {
@@ -152,7 +152,7 @@ impl<'m, 'c, T: Metric + From<String<C::Memory>>, C: MetricBackend> MetricBuilde
     }
 
     /// Adds a tag with a key, after the default tags and the earlier ones. `try_send` returns an error if memory runs out,
-    /// or a strict client finds a separator in the tag.
+    /// or a strict client finds a separator in the key, or one other than a colon in the value.
     // Without this hint a call of `bench count_tags` takes 133 instructions more.
     #[inline(always)]
     pub fn with_tag(mut self, key: &'m str, value: &'m str) -> Self

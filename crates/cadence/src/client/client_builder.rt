@@ -3,7 +3,7 @@ ghost use Rattle.std.specs.Prelude.{◌≡◌, Err, IfErr, IfOk};
 ghost use Rattle.std.specs.Option.{option_copied};
 ghost use Rattle.cadence_errors.specs.Errors.{Makes, MayOnlyRunOutOfMemory};
 ghost use Rattle.cadence_text.specs.Metric.{keyed, unkeyed};
-ghost use Rattle.cadence_settings.specs.Settings.{allows_text, is_free_settings, with_default_container, with_strict_texts};
+ghost use Rattle.cadence_settings.specs.Settings.{allows_text, is_clear_settings, with_default_container, with_strict_texts};
 
 use crate::client::handler::{BoxedErrorHandler, BoxedHandler, ErrorHandler, NopErrorHandler};
 use crate::client::statsd_client::{BoxedSink, StatsdClient};
@@ -103,10 +103,12 @@ impl<A: Allocator + Clone, S: MetricSink, H: ErrorHandler> StatsdClientBuilder<A
     }
 
     /// Makes the client strict: it refuses each call that has a colon, a comma, a bar or a newline in its key, a tag or
-    /// the container, with the kind `InvalidInput`. So no text of such a call can make or change another metric. The text
-    /// of `send_metric` is sent as it is. If the prefix or a default has a separator, `build` returns this error.
+    /// the container, with the kind `InvalidInput`. The text of a tag with a key may have colons, as in
+    /// `url:http://x`, because the first colon ends the key. So no text of such a call can make or change another
+    /// metric. The text of `send_metric` is sent as it is. If the prefix or a default has a separator that is not
+    /// allowed there, `build` returns this error.
     pub fn with_strict_texts(mut self) -> Self
-        ensures { AddsDefault is_free_settings with_strict_texts self result }
+        ensures { AddsDefault is_clear_settings with_strict_texts self result }
     {
         if let Ok(settings) = &mut self.settings {
             if let Err(error) = settings.set_strict() {

@@ -9,18 +9,18 @@ use Rattle.cadence_flow.specs.declared.io.counting.CountingWriter.{CountingWrite
 use Rattle.cadence_queue.specs.declared.policy.QueuePolicy.{QueuePolicy}
 use Rattle.cadence_text.specs.Line.{line_of}
 use Rattle.cadence_text.specs.Metric.{Metric}
-use Rattle.cadence_text.specs.OneReading.{IsFreeOfSeparators}
+use Rattle.cadence_text.specs.OneReading.{IsClear, IsFreeOfSeparators}
 use Rattle.cadence_text.specs.Representable.{IsRepresentable}
 use Rattle.cadence_settings.specs.CallData.{line_of_data, metric_of_data}
-use Rattle.cadence_settings.specs.Laws.{StrictCallsAreFree}
-use Rattle.cadence_settings.specs.Settings.{Settings, is_free_settings}
+use Rattle.cadence_settings.specs.Laws.{StrictCallsAreClear}
+use Rattle.cadence_settings.specs.Settings.{Settings, is_clear_settings}
 use Rattle.cadence_settings.specs.declared.call.Call.{Call}
-use Rattle.cadence_settings.proofs.calls.FreeTexts.{strict_data_free}
+use Rattle.cadence_settings.proofs.calls.FreeTexts.{strict_data_clear}
 use Rattle.cadence_settings.proofs.calls.NonemptyLines.{line_filled}
 use Rattle.cadence_schedule.specs.Packed.{ArePacked}
 use Rattle.cadence_schedule.specs.Headline.{Given, given_of, packets_between, HasHeadline, IsAccounted, ReportsWhole}
 use Rattle.cadence_schedule.specs.Joined.{lead_seen}
-use Rattle.cadence_schedule.specs.Laws.{LeastPackets, PacketsReadOneWay}
+use Rattle.cadence_schedule.specs.Laws.{LeastPackets, PacketsReadOneWay, ReadOneWay}
 use Rattle.cadence_schedule.specs.Packets.{ArePacketsOf, ReadsAs}
 use Rattle.cadence_schedule.specs.PackedRuns.{Packs, view_of}
 use Rattle.cadence_schedule.specs.Plan.{NoGroupHasRoom, IsFewest, groups_of}
@@ -118,29 +118,29 @@ module _ {W A : Type 0} (kind_of : W → WriterKind) (history_of : W → PacketH
       );
     }
 
-    -- a listener reads the kept metrics, if they are free of separators
-    reading : PacketsReadOneWay → ReportsWhole (kind_of writer) → ending ≡ codes "\n"
-        → All IsFreeOfSeparators (kept (metric_of_data settings) turns)
-        → ReadsAs (kept (metric_of_data settings) turns) (packets_between before last) run.recipient.packer.held
-    reading reads whole newline free =
+    -- the packets are those of the kept metrics, and of no others that have the property, if the kept metrics have it
+    reading : (Has : Metric → Type 0) → ReadOneWay Has → ReportsWhole (kind_of writer) → ending ≡ codes "\n"
+        → All Has (kept (metric_of_data settings) turns)
+        → ReadsAs Has (kept (metric_of_data settings) turns) (packets_between before last) run.recipient.packer.held
+    reading Has reads whole newline each =
         reads capacity (marks lines turns) (refusals lines turns) run.recipient.cut.items (kept (metric_of_data settings) turns)
-        (packets_between before last) run.recipient.packer.held free
+        (packets_between before last) run.recipient.packer.held each
         (subst (λ e. ArePacketsOf record { capacity = capacity; ending = e } (marks lines turns) (refusals lines turns)
         (map line_of (kept (metric_of_data settings) turns)) run.recipient.cut.items (packets_between before last) run.recipient.packer.held) newline
         (subst (λ ls. ArePacketsOf format (marks lines turns) (refusals lines turns) ls run.recipient.cut.items
         (packets_between before last) run.recipient.packer.held) (kept_mapped line_of (metric_of_data settings) turns) (cut_is whole)))
 
-    -- of strict settings without a separator, the kept metrics are free of separators
-    free_kept : StrictCallsAreFree → (IsTrue settings.strict → IsTrue (is_free_settings settings)) → settings.strict ≡ true
-        → All IsFreeOfSeparators (kept (metric_of_data settings) turns)
-    free_kept law free strict =
-        all_kept IsFreeOfSeparators (metric_of_data settings) turns
-        (all_accepted IsFreeOfSeparators (metric_of_data settings) (strict_data_free settings law strict (free strict)) turns)
+    -- of strict and clear settings, the kept metrics are clear
+    clear_kept : StrictCallsAreClear → (IsTrue settings.strict → IsTrue (is_clear_settings settings)) → settings.strict ≡ true
+        → All IsClear (kept (metric_of_data settings) turns)
+    clear_kept law clear strict =
+        all_kept IsClear (metric_of_data settings) turns
+        (all_accepted IsClear (metric_of_data settings) (strict_data_clear settings law strict (clear strict)) turns)
 
     -- what is promised beside it
-    pub is_accounted : PacketsReadOneWay → StrictCallsAreFree → (IsTrue settings.strict → IsTrue (is_free_settings settings))
+    pub is_accounted : PacketsReadOneWay → StrictCallsAreClear → (IsTrue settings.strict → IsTrue (is_clear_settings settings))
         → All IsRepresentable (accepted (metric_of_data settings) turns) → IsAccounted history_of given (outcome_after run run.recipient replies)
-    is_accounted reads law free each = record {
+    is_accounted reads law clear each = record {
       late = λ whole.
           subst (λ t. NoGroupHasRoom capacity (t.0 ++ t.1) (groups_of run.recipient.cut.items (map (size_of format) (texts_in t.2)))) same (pack.late whole);
       taken = λ reports. pack.taken reports ∙ ap (taken_stream format) says.kept_is;
@@ -148,7 +148,8 @@ module _ {W A : Type 0} (kind_of : W → WriterKind) (history_of : W → PacketH
       stats = pack.stats;
       earlier = pack.earlier;
       representable = all_kept IsRepresentable (metric_of_data settings) turns each;
-      one_reading = λ whole newline plain. reading reads whole newline plain;
-      strict_free = λ strict. free_kept law free strict;
-      strict_reading = λ whole newline strict. reading reads whole newline (free_kept law free strict);
+      one_reading = λ whole newline free. reading IsFreeOfSeparators reads.free whole newline free;
+      clear_reading = λ whole newline kept. reading IsClear reads.clear whole newline kept;
+      strict_clear = λ strict. clear_kept law clear strict;
+      strict_reading = λ whole newline strict. reading IsClear reads.clear whole newline (clear_kept law clear strict);
     }

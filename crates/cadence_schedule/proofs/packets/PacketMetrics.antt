@@ -9,7 +9,7 @@ use Rattle.std.proofs.lemmas.Bool.{cases_lt, le-ltb, lt-ltb, cond-true, cond-fal
 use Rattle.cadence_schedule.specs.Plan.{groups_of, FitsPacket}
 use Rattle.cadence_text.specs.Metric.{Metric}
 use Rattle.cadence_text.specs.Line.{line_of}
-use Rattle.cadence_text.specs.OneReading.{lines_of, IsFreeOfSeparators, IsPacketOf}
+use Rattle.cadence_text.specs.OneReading.{lines_of, IsPacketOf}
 use Rattle.cadence_flow.specs.Frame.{Format, size_of, frame, stream}
 use Rattle.cadence_schedule.specs.Packets.{ArePacketsOf, IsPacketOfOnly, ReadsAs}
 
@@ -56,11 +56,14 @@ groups_joined (count ∷ plan) xs e =
     ap (λ r. take count xs ++ r) (groups_joined plan (drop count xs) (omega (arith, e, length-drop count xs, sum_by-cons (λ y. y) count plan)))
     ∙ take-append-drop count xs
 
-module _ (law : (xs ys : List Metric) (packet : List ℕ) → All IsFreeOfSeparators xs → All IsFreeOfSeparators ys → IsPacketOf xs packet
-    → IsPacketOf ys packet → xs ≡ ys) (capacity : ℕ) where
-  each_reads : (plan : List ℕ) (metrics : List Metric) → All IsFreeOfSeparators metrics
+-- A packet is that of at most one list of metrics that have the property.
+abbrev pub ReadsOnce : (Metric → Type 0) → Type 0
+ReadsOnce Has = (xs ys : List Metric) (packet : List ℕ) → All Has xs → All Has ys → IsPacketOf xs packet → IsPacketOf ys packet → xs ≡ ys
+
+module _ (Has : Metric → Type 0) (law : ReadsOnce Has) (capacity : ℕ) where
+  each_reads : (plan : List ℕ) (metrics : List Metric) → All Has metrics
       → AllByRecursion (FitsPacket capacity) (groups_of plan (map (size_of (newline capacity)) (map line_of metrics)))
-      → AllZip IsPacketOfOnly (groups_of plan metrics) (map (stream (newline capacity)) (groups_of plan (map line_of metrics)))
+      → AllZip (IsPacketOfOnly Has) (groups_of plan metrics) (map (stream (newline capacity)) (groups_of plan (map line_of metrics)))
   each_reads [] metrics plain fit = tt
   each_reads (count ∷ plan) metrics plain (first, rest) =
       let here : IsPacketOf (take count metrics) (stream (newline capacity) (take count (map line_of metrics))) =
@@ -69,27 +72,26 @@ module _ (law : (xs ys : List Metric) (packet : List ℕ) → All IsFreeOfSepara
       (take-map (size_of (newline capacity)) count (map line_of metrics)
       ∙ ap (map (size_of (newline capacity))) (take-map line_of count metrics)) first)) in (
         record {
-          free = All-take IsFreeOfSeparators count metrics plain;
+          each = All-take Has count metrics plain;
           reads = here;
           only = λ others h p. law others (take count metrics)
-              (stream (newline capacity) (take count (map line_of metrics))) h (All-take IsFreeOfSeparators count metrics plain) p here;
+              (stream (newline capacity) (take count (map line_of metrics))) h (All-take Has count metrics plain) p here;
         },
-        subst (λ l. AllZip IsPacketOfOnly (groups_of plan (drop count metrics)) (map (stream (newline capacity)) (groups_of plan l)))
+        subst (λ l. AllZip (IsPacketOfOnly Has) (groups_of plan (drop count metrics)) (map (stream (newline capacity)) (groups_of plan l)))
             (sym (drop-map line_of count metrics))
-            (each_reads plan (drop count metrics) (All-drop IsFreeOfSeparators count metrics plain)
+            (each_reads plan (drop count metrics) (All-drop Has count metrics plain)
             (subst (λ l. AllByRecursion (FitsPacket capacity) (groups_of plan l)) (drop-map (size_of (newline capacity)) count (map line_of metrics)
             ∙ ap (map (size_of (newline capacity))) (drop-map line_of count metrics)) rest)),
       )
 
-pub reads_as : ((xs ys : List Metric) (packet : List ℕ) → All IsFreeOfSeparators xs → All IsFreeOfSeparators ys → IsPacketOf xs packet
-    → IsPacketOf ys packet → xs ≡ ys)
+pub reads_as : (Has : Metric → Type 0) → ReadsOnce Has
     → (capacity : ℕ) (marks refusals plan : List ℕ) (metrics : List Metric) (packets : List (List ℕ)) (held : List ℕ)
-    → All IsFreeOfSeparators metrics → ArePacketsOf (newline capacity) marks refusals (map line_of metrics) plan packets held
-    → ReadsAs metrics packets held
-reads_as law capacity marks refusals plan metrics packets held plain p = (
+    → All Has metrics → ArePacketsOf (newline capacity) marks refusals (map line_of metrics) plan packets held
+    → ReadsAs Has metrics packets held
+reads_as Has law capacity marks refusals plan metrics packets held plain p = (
   groups_of plan metrics,
   groups_joined plan metrics (p.admissible.whole ∙ length-map (map line_of metrics) (size_of (newline capacity)) ∙ length-map metrics line_of),
-  subst (λ ps. AllZip IsPacketOfOnly (groups_of plan metrics) ps) (sym p.groups)
-      (each_reads law capacity plan metrics plain (recursion_from_All (FitsPacket capacity)
+  subst (λ ps. AllZip (IsPacketOfOnly Has) (groups_of plan metrics) ps) (sym p.groups)
+      (each_reads Has law capacity plan metrics plain (recursion_from_All (FitsPacket capacity)
       (groups_of plan (map (size_of (newline capacity)) (map line_of metrics))) p.admissible.fit)),
 )

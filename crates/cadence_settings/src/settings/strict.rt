@@ -3,16 +3,17 @@ ghost use Rattle.std.specs.Prelude.{◌≡◌, IfErr, IsFalse, IsTrue, OnOk, OnE
 ghost use Rattle.std.specs.List.{list_all};
 ghost use Rattle.cadence_errors.specs.Errors.{IsInvalid};
 ghost use Rattle.cadence_text.specs.Owned.{tag_of_owned};
-ghost use Rattle.cadence_text.specs.FreeTexts.{is_free_if_any, is_free_tag, is_free_text};
+ghost use Rattle.cadence_text.specs.FreeTexts.{is_free_if_any, is_clear_tag, is_free_text};
 
 use super::ClientSettings;
 use crate::call::Call;
 use cadence_errors::{ErrorKind, InputError, MetricError, MetricResult, Reason};
-use cadence_text::line::{OwnedTag, is_free, lend_tag};
+use cadence_text::line::{OwnedTag, is_free, is_free_after_key, lend_tag};
 use cadence_value::value::MetricValue;
 use std::alloc::Allocator;
 
-/// The settings are strict, and a text has a colon, a comma, a bar or a newline.
+/// The settings are strict, and a text has a colon, a comma, a bar or a newline. The text of a tag with a key may have
+/// colons.
 #[derive(Clone, Copy, Debug, PartialEq, Eq)]
 pub struct Separator;
 
@@ -43,30 +44,35 @@ fn any_is_free(text: Option<&str>) -> bool
     }
 }
 
-/// Returns whether neither the key of a tag, if it has one, nor its text has a colon, comma, bar or newline.
-pub fn tag_is_free(key: Option<&str>, text: &str) -> bool
-    ensures { result ≡ is_free_tag (record { key = option_copied key.entry; text = text.now }) }
+/// Returns whether a tag can be read in one way only. With a key, the key must have no colon, comma, bar or newline, and
+/// the text no comma, bar or newline: the first colon of a tag ends its key. Without a key, the text must have none of
+/// the four.
+pub fn tag_is_clear(key: Option<&str>, text: &str) -> bool
+    ensures { result ≡ is_clear_tag (record { key = option_copied key.entry; text = text.now }) }
 {
-    any_is_free(key) && text_is_free(text)
+    match key {
+        Some(key) => text_is_free(key) && is_free_after_key(text.as_bytes()),
+        None => text_is_free(text),
+    }
 }
 
-// Returns whether no tag of the list has a separator.
-fn tags_are_free<A: Allocator>(tags: &[OwnedTag<A>]) -> bool
-    ensures { result ≡ list_all is_free_tag (map tag_of_owned tags.now) }
+// Returns whether each tag of the list is clear.
+fn tags_are_clear<A: Allocator>(tags: &[OwnedTag<A>]) -> bool
+    ensures { result ≡ list_all is_clear_tag (map tag_of_owned tags.now) }
 {
     for owned in tags {
         let tag = lend_tag(owned);
-        if !tag_is_free(tag.key, tag.text) {
+        if !tag_is_clear(tag.key, tag.text) {
             return false;
         }
     }
     true
 }
 
-// Returns the error of a call that has a separator in a text: the error of its value, if the value doesn't fit, and
+// Returns the error of a call that strict settings refuse: the error of its value, if the value doesn't fit, and
 // otherwise that of the separator.
 #[cold]
-fn unfree_error<V: Drop>(value: MetricResult<V>) -> MetricError
+fn unclear_error<V: Drop>(value: MetricResult<V>) -> MetricError
     ensures { IsInvalid result }
 {
     match value {
@@ -80,22 +86,23 @@ fn unfree_error<V: Drop>(value: MetricResult<V>) -> MetricError
 impl<A: Allocator + Clone> ClientSettings<A> {
     ghost use Rattle.cadence_value.specs.Values.{Converts};
     ghost use Rattle.cadence_settings.specs.CallData.{numbers_of_data};
-    ghost use Rattle.cadence_settings.specs.Settings.{allows_text, is_free_settings, with_strict_texts};
+    ghost use Rattle.cadence_settings.specs.Settings.{allows_text, is_clear_settings, with_strict_texts};
 
     /// Makes the settings strict. From then on each call, default tag and default container with a separator in a text
-    /// is refused: a colon, a comma, a bar or a newline. So no text of a call can make, change or split a metric.
+    /// is refused: a colon, a comma, a bar or a newline. Colons are allowed in the text of a tag with a key, because the
+    /// first colon of a tag ends its key. So no text of a call can make, change or split a metric.
     ///
     /// # Errors
     /// An error of kind `InvalidInput` (`separator in a text`) if and only if the prefix, a default tag or the default
-    /// container has a separator. Then the settings are unchanged.
+    /// container has a separator that is not allowed there. Then the settings are unchanged.
     pub fn set_strict(&mut self) -> MetricResult<()>
         ensures ok { OnOk result (self.new ≡ with_strict_texts self.old) }
-        ensures free { OnOk result (IsTrue (is_free_settings self.old)) }
+        ensures clear { OnOk result (IsTrue (is_clear_settings self.old)) }
         ensures err { IfErr result IsInvalid }
-        ensures unfree { OnErr result (IsFalse (is_free_settings self.old)) }
+        ensures unclear { OnErr result (IsFalse (is_clear_settings self.old)) }
         ensures kept { OnErr result (self.new ≡ self.old) }
     {
-        if !self.is_free() {
+        if !self.is_clear() {
             return Err(MetricError::from(DraftError::Unusable(Separator)));
         }
         self.strict = true;
@@ -105,16 +112,16 @@ impl<A: Allocator + Clone> ClientSettings<A> {
     /// Returns whether the settings are strict.
     pub fn is_strict(&self) -> bool
         ensures strict { result ≡ self.now.strict }
-        ensures free { IsTrue result → IsTrue (is_free_settings self.now) }
+        ensures clear { IsTrue result → IsTrue (is_clear_settings self.now) }
     {
         self.strict
     }
 
-    // Returns whether no text of the settings has a separator.
-    fn is_free(&self) -> bool
-        ensures { result ≡ is_free_settings self.now }
+    // Returns whether no text of the settings has a separator, except colons after the keys of tags.
+    fn is_clear(&self) -> bool
+        ensures { result ≡ is_clear_settings self.now }
     {
-        if !text_is_free(&self.prefix) || !tags_are_free(&self.tags) {
+        if !text_is_free(&self.prefix) || !tags_are_clear(&self.tags) {
             return false;
         }
         any_is_free(self.default_container())
@@ -132,7 +139,7 @@ impl<A: Allocator + Clone> ClientSettings<A> {
         if self.allows_text(key) {
             return error;
         }
-        unfree_error::<()>(Err(error))
+        unclear_error::<()>(Err(error))
     }
 
     // Returns the value of a call. If the settings don't allow the call, the error is of kind `InvalidInput`.
@@ -140,8 +147,8 @@ impl<A: Allocator + Clone> ClientSettings<A> {
         ensures { Converts (numbers_of_data self.now call.now) result }
     {
         let value = call.value.convert();
-        if self.strict && !call.is_free() {
-            return Err(unfree_error(value));
+        if self.strict && !call.is_clear() {
+            return Err(unclear_error(value));
         }
         value
     }

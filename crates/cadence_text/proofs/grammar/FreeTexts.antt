@@ -1,4 +1,4 @@
--- The tests of texts and tags for separators are true if and only if the text or the tag has no separator.
+-- The tests of texts and tags are true if and only if the text has no separator or the tag is clear.
 use Rattle.std.proofs.Common.{◌≡◌, ℕ, ◌<◌, ◌≤◌, ◌⊎◌, inl, inr, List, [], ◌∷◌}
 use Rattle.std.proofs.Common.{Option, Some, None, Bool, true, false, refl, sym, ap, subst, length, get_or, nat_eq, arith}
 use Rattle.std.specs.Prelude.{All, IfSome, IsTrue, ◌↔◌, ◌&&◌, ◌==◌, not}
@@ -7,8 +7,8 @@ use Rattle.std.proofs.lemmas.Bool.{and_from, and_parts, cases_lt, eq-eqb, eqb-fa
 use Rattle.std.proofs.lemmas.List.{get_or_default}
 use Rattle.std.proofs.lemmas.List.Elements.{All-cons, All-head, All-nil, All-tail}
 use Rattle.cadence_text.specs.Metric.{Tag}
-use Rattle.cadence_text.specs.OneReading.{IsFreeTag, IsFreeText, IsNoSeparator}
-use Rattle.cadence_text.specs.FreeTexts.{is_no_separator, is_free_text, is_free_if_any, is_free_tag}
+use Rattle.cadence_text.specs.OneReading.{IsClearAfter, IsClearTag, IsFreeAfterKey, IsFreeText, IsNoSeparator, IsNoTagEnd}
+use Rattle.cadence_text.specs.FreeTexts.{is_no_separator, is_free_text, is_free_if_any, is_no_tag_end, is_free_after_key, is_clear_after, is_clear_tag}
 
 -- two tests are the same if each is true whenever the other one is
 pub same_test : (a b : Bool) → (a ≡ true → b ≡ true) → (b ≡ true → a ≡ true) → a ≡ b
@@ -59,18 +59,46 @@ tested_text r bytes text same test =
     same_test r (is_free_text text) (λ h. free_text_from text (subst IsFreeText same (test.0 h)))
     (λ h. test.1 (subst IsFreeText (sym same) (free_text text h)))
 
--- A text has no separator if no byte before an index has one and the index is the text's length. Otherwise the byte at
--- the index is a separator.
-module _ (text : List ℕ) (at : ℕ) (bound : at ≤ length text) where
-  at_end : ((at < length text) ⊎ (length text ≤ at)) → (at < length text → IsNoSeparator (get_or text at 0) → ⊥) → IsFreeText text
-      → at ≡ length text
+pub no_tag_end : (b : ℕ) → is_no_tag_end b ≡ true → IsNoTagEnd b
+unfolding is_no_tag_end
+no_tag_end b h =
+    let (comma, h1) = and_parts (not (b == 44)) (not (b == 124) && not (b == 10)) h in
+    let (bar, newline) = and_parts (not (b == 124)) (not (b == 10)) h1 in (
+      eqb-false b 44 (not-true (b == 44) comma),
+      eqb-false b 124 (not-true (b == 124) bar),
+      eqb-false b 10 (not-true (b == 10) newline),
+    )
+
+pub no_tag_end_from : (b : ℕ) → IsNoTagEnd b → is_no_tag_end b ≡ true
+unfolding is_no_tag_end
+no_tag_end_from b (comma, bar, newline) =
+    and_from (not (b == 44)) (not (b == 124) && not (b == 10)) (ap not (ne_eqb b 44 comma))
+    (and_from (not (b == 124)) (not (b == 10)) (ap not (ne_eqb b 124 bar)) (ap not (ne_eqb b 10 newline)))
+
+pub free_after_key : (text : List ℕ) → is_free_after_key text ≡ true → IsFreeAfterKey text
+unfolding is_free_after_key
+free_after_key text h = each_passes is_no_tag_end IsNoTagEnd no_tag_end text h
+
+pub free_after_key_from : (text : List ℕ) → IsFreeAfterKey text → is_free_after_key text ≡ true
+unfolding is_free_after_key
+free_after_key_from text h = all_pass is_no_tag_end IsNoTagEnd no_tag_end_from text h
+
+-- a test of the text that is true if and only if the text has no separator but colons
+pub tested_after_key : (r : Bool) (text : List ℕ) → (IsTrue r ↔ IsFreeAfterKey text) → r ≡ is_free_after_key text
+tested_after_key r text test =
+    same_test r (is_free_after_key text) (λ h. free_after_key_from text (test.0 h)) (λ h. test.1 (free_after_key text h))
+
+-- Each byte of a text is of a kind if each byte before an index is and the index is the text's length. Otherwise the
+-- byte at the index isn't.
+module _ (P : ℕ → Type 0) (text : List ℕ) (at : ℕ) (bound : at ≤ length text) where
+  at_end : ((at < length text) ⊎ (length text ≤ at)) → (at < length text → P (get_or text at 0) → ⊥) → All P text → at ≡ length text
   at_end (inl below) stops free = absurd (stops below (free at 0 below))
   at_end (inr over) stops free = omega arith
 
-  pub free_at_end : ((k : ℕ) → k < at → IsNoSeparator (get_or text k 0)) → (at < length text → IsNoSeparator (get_or text at 0) → ⊥)
-      → IsTrue (nat_eq at (length text)) ↔ IsFreeText text
+  pub free_at_end : ((k : ℕ) → k < at → P (get_or text k 0)) → (at < length text → P (get_or text at 0) → ⊥)
+      → IsTrue (nat_eq at (length text)) ↔ All P text
   free_at_end front stops = (
-    λ ends k d below. subst IsNoSeparator (get_or_default text k 0 d below) (front k (omega (arith, eqb-true at (length text) ends))),
+    λ ends k d below. subst P (get_or_default text k 0 d below) (front k (omega (arith, eqb-true at (length text) ends))),
     λ free. eq-eqb at (length text) (at_end (cases_lt at (length text)) stops free),
   )
 
@@ -82,17 +110,26 @@ pub free_if_any_from : (text : Option (List ℕ)) → IfSome text IsFreeText →
 free_if_any_from None h = refl
 free_if_any_from (Some text) h = free_text_from text h
 
-pub free_tag : (tag : Tag) → is_free_tag tag ≡ true → IsFreeTag tag
-free_tag tag h =
-    let (key, text) = and_parts (is_free_if_any tag.key) (is_free_text tag.text) h in
-    record { key = free_if_any tag.key key; text = free_text tag.text text }
+clear_after : (key : Option (List ℕ)) (text : List ℕ) → is_clear_after key text ≡ true → IsClearAfter key text
+clear_after None text h = free_text text h
+clear_after (Some key) text h = free_after_key text h
 
-pub free_tag_from : (tag : Tag) → IsFreeTag tag → is_free_tag tag ≡ true
-free_tag_from tag h =
-    and_from (is_free_if_any tag.key) (is_free_text tag.text) (free_if_any_from tag.key h.key) (free_text_from tag.text h.text)
+clear_after_from : (key : Option (List ℕ)) (text : List ℕ) → IsClearAfter key text → is_clear_after key text ≡ true
+clear_after_from None text h = free_text_from text h
+clear_after_from (Some key) text h = free_after_key_from text h
 
-pub free_tags : (tags : List Tag) → list_all is_free_tag tags ≡ true → All IsFreeTag tags
-free_tags tags h = each_passes is_free_tag IsFreeTag free_tag tags h
+pub clear_tag : (tag : Tag) → is_clear_tag tag ≡ true → IsClearTag tag
+clear_tag tag h =
+    let (key, text) = and_parts (is_free_if_any tag.key) (is_clear_after tag.key tag.text) h in
+    record { key = free_if_any tag.key key; text = clear_after tag.key tag.text text }
 
-pub free_tags_from : (tags : List Tag) → All IsFreeTag tags → list_all is_free_tag tags ≡ true
-free_tags_from tags h = all_pass is_free_tag IsFreeTag free_tag_from tags h
+pub clear_tag_from : (tag : Tag) → IsClearTag tag → is_clear_tag tag ≡ true
+clear_tag_from tag h =
+    and_from (is_free_if_any tag.key) (is_clear_after tag.key tag.text) (free_if_any_from tag.key h.key)
+    (clear_after_from tag.key tag.text h.text)
+
+pub clear_tags : (tags : List Tag) → list_all is_clear_tag tags ≡ true → All IsClearTag tags
+clear_tags tags h = each_passes is_clear_tag IsClearTag clear_tag tags h
+
+pub clear_tags_from : (tags : List Tag) → All IsClearTag tags → list_all is_clear_tag tags ≡ true
+clear_tags_from tags h = all_pass is_clear_tag IsClearTag clear_tag_from tags h

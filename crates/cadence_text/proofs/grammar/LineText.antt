@@ -1,17 +1,18 @@
--- The grammar of lines: different metrics that are free of separators have different lines, and so have lists of them.
+-- The grammar of lines: different clear metrics have different lines, and so have lists of them.
 use Rattle.std.proofs.Common.{◌≡◌, ◌≢◌, ℕ, ◌<◌, List, [], ◌∷◌, ◌++◌, length, Option, Some, None, Bool, refl, sym, ap, ◌∙◌, ap₂, subst}
 use Rattle.std.proofs.Common.{arith, eqb, map, lit<, get_or, inl, inr}
 use Rattle.std.specs.Prelude.{All, IfSome}
 use Rattle.std.specs.List.{AllByRecursion, join_with_byte, flat_map}
 use Rattle.std.proofs.lemmas.List.{append-nil, append_assoc, length-append}
 use Rattle.std.proofs.lemmas.List.Concat.{flat_map-append}
-use Rattle.std.proofs.lemmas.List.Elements.{recursion_from_All, All-head}
+use Rattle.std.proofs.lemmas.List.Elements.{recursion_from_All, All-head, All-weaker}
 use Rattle.cadence_text.specs.declared.line.MetricType.{MetricType}
 use Rattle.cadence_text.specs.declared.line.MetricType.TheVariants.{Counter, Timer, Gauge, Meter, Histogram, Set, Distribution}
 use Rattle.cadence_value.specs.Number.{Number, decimal_text, number_text, joined_texts, numbers_text}
 use Rattle.cadence_text.specs.Metric.{Metric, Tag}
 use Rattle.cadence_text.specs.Line.{kind_text, rate_field, key_text, tag_text, tags_field, container_field, time_field, line_of}
-use Rattle.cadence_text.specs.OneReading.{IsNoSeparator, IsFreeText, IsFreeTag, IsFreeOfSeparators, lines_of, IsPacketOf}
+use Rattle.cadence_text.specs.OneReading.{IsNoSeparator, IsNoTagEnd, IsFreeText, IsFreeTag, IsFreeOfSeparators}
+use Rattle.cadence_text.specs.OneReading.{IsClearAfter, IsClearTag, IsClear, lines_of, IsPacketOf}
 use Rattle.cadence_value.proofs.lists.SplitTexts.{Lacks, lacks_no, cut_at, join_once, map_once, each_weaker, each_mapped, each_image, each_append}
 use Rattle.cadence_value.proofs.lists.SplitTexts.{each_joined, cut_once, Stops, Passes}
 use Rattle.cadence_value.proofs.digits.Digits.{decimal_text_once}
@@ -114,6 +115,17 @@ number_plain a =
       λ e. absurd (omega arith),
     )) (number_text a) (number_bytes a)
 
+-- What is free of separators is clear.
+free_after : (key : Option (List ℕ)) (text : List ℕ) → IsFreeText text → IsClearAfter key text
+free_after None text h = h
+free_after (Some key) text h = All-weaker IsNoSeparator IsNoTagEnd (λ b p. (p.1, p.2, p.3)) text h
+
+pub free_tag_clear : (tag : Tag) → IsFreeTag tag → IsClearTag tag
+free_tag_clear tag h = record { key = h.key; text = free_after tag.key tag.text h.text }
+
+pub free_clear : (m : Metric) → IsFreeOfSeparators m → IsClear m
+free_clear m h = record { name = h.name; tags = All-weaker IsFreeTag IsClearTag free_tag_clear m.tags h.tags; container = h.container }
+
 -- the text of a tag: `key:text`, or the text alone
 abbrev pub keyed_text : Option (List ℕ) → List ℕ → List ℕ
 keyed_text (Some key) text = key ++ 58 ∷ text
@@ -123,8 +135,8 @@ pub key_text-keyed : (k : Option (List ℕ)) (s : List ℕ) → key_text k ++ s 
 key_text-keyed (Some k) s = append_assoc k (58 ∷ []) s
 key_text-keyed None s = refl
 
--- Two tags without separators that have the same text are the same tag.
-keyed_once : (k l : Option (List ℕ)) (s t : List ℕ) → IfSome k IsFreeText → IfSome l IsFreeText → IsFreeText s → IsFreeText t
+-- Two clear tags that have the same text are the same tag.
+keyed_once : (k l : Option (List ℕ)) (s t : List ℕ) → IfSome k IsFreeText → IfSome l IsFreeText → IsClearAfter k s → IsClearAfter l t
     → keyed_text k s ≡ keyed_text l t → (k ≡ l) × (s ≡ t)
 keyed_once (Some k) (Some l) s t hk hl hs ht e =
     let (same, rest) = cut_at 58 k l (58 ∷ s) (58 ∷ t) (plain_lacks_colon k hk) (plain_lacks_colon l hl) refl refl e in (ap Some same, cc)
@@ -134,34 +146,30 @@ keyed_once None (Some l) s t hk hl hs ht e =
     let (same, rest) = cut_at 58 s l [] (58 ∷ t) (plain_lacks_colon s hs) (plain_lacks_colon l hl) tt refl (append-nil s ∙ e) in absurd cc
 keyed_once None None s t hk hl hs ht e = (refl, e)
 
-tag_once : (a b : Tag) → IsFreeTag a → IsFreeTag b → tag_text a ≡ tag_text b → a ≡ b
+tag_once : (a b : Tag) → IsClearTag a → IsClearTag b → tag_text a ≡ tag_text b → a ≡ b
 tag_once a b ha hb e =
     let (key, text) = keyed_once a.key b.key a.text b.text ha.key hb.key ha.text hb.text (sym (key_text-keyed a.key a.text) ∙ e
     ∙ key_text-keyed b.key b.text) in
     λ i. record { key = key i; text = text i }
 
--- The byte is no comma, bar or newline, so it can be in a tag's text.
-abbrev TagByte : ℕ → Type 0
-TagByte b = (b ≢ 44) × (b ≢ 124) × (b ≢ 10)
+plain_tag_bytes : (text : List ℕ) → IsFreeText text → AllByRecursion IsNoTagEnd text
+plain_tag_bytes text h = each_weaker IsNoSeparator IsNoTagEnd (λ b p. (p.1, p.2, p.3)) text (plain text h)
 
-plain_tag_bytes : (text : List ℕ) → IsFreeText text → AllByRecursion TagByte text
-plain_tag_bytes text h = each_weaker IsNoSeparator TagByte (λ b p. (p.1, p.2, p.3)) text (plain text h)
-
-keyed_bytes : (k : Option (List ℕ)) (s : List ℕ) → IfSome k IsFreeText → IsFreeText s → AllByRecursion TagByte (keyed_text k s)
+keyed_bytes : (k : Option (List ℕ)) (s : List ℕ) → IfSome k IsFreeText → IsClearAfter k s → AllByRecursion IsNoTagEnd (keyed_text k s)
 keyed_bytes (Some k) s hk hs =
-    each_append TagByte k (58 ∷ s) (plain_tag_bytes k hk) (
+    each_append IsNoTagEnd k (58 ∷ s) (plain_tag_bytes k hk) (
       (
         λ e. absurd (omega arith),
         λ e. absurd (omega arith),
         λ e. absurd
             (omega arith),
       ),
-      plain_tag_bytes s hs,
+      recursion_from_All IsNoTagEnd s hs,
     )
 keyed_bytes None s hk hs = plain_tag_bytes s hs
 
-tag_bytes : (a : Tag) → IsFreeTag a → AllByRecursion TagByte (tag_text a)
-tag_bytes a h = subst (λ t. AllByRecursion TagByte t) (sym (key_text-keyed a.key a.text)) (keyed_bytes a.key a.text h.key h.text)
+tag_bytes : (a : Tag) → IsClearTag a → AllByRecursion IsNoTagEnd (tag_text a)
+tag_bytes a h = subst (λ t. AllByRecursion IsNoTagEnd t) (sym (key_text-keyed a.key a.text)) (keyed_bytes a.key a.text h.key h.text)
 
 kind_once : (a b : MetricType) → kind_text a ≡ kind_text b → a ≡ b
 kind_once Counter Counter e = refl
@@ -239,18 +247,18 @@ rate_once (Some a) None e = absurd cc
 rate_once None (Some b) e = absurd cc
 rate_once None None e = refl
 
-pub tag_lacks : (a : Tag) → IsFreeTag a → Lacks 44 (tag_text a)
-tag_lacks a h = each_weaker TagByte (λ b. b ≢ 44) (λ b p. p.0) (tag_text a) (tag_bytes a h)
+pub clear_tag_lacks : (a : Tag) → IsClearTag a → Lacks 44 (tag_text a)
+clear_tag_lacks a h = each_weaker IsNoTagEnd (λ b. b ≢ 44) (λ b p. p.0) (tag_text a) (tag_bytes a h)
 
-tags_once : (xs ys : List Tag) → AllByRecursion IsFreeTag xs → AllByRecursion IsFreeTag ys → tags_part xs ≡ tags_part ys → xs ≡ ys
+tags_once : (xs ys : List Tag) → AllByRecursion IsClearTag xs → AllByRecursion IsClearTag ys → tags_part xs ≡ tags_part ys → xs ≡ ys
 tags_once [] [] hx hy e = refl
 tags_once [] (y ∷ ys) hx hy e = absurd cc
 tags_once (x ∷ xs) [] hx hy e = absurd cc
 tags_once (x ∷ xs) (y ∷ ys) hx hy e =
     let text : join_with_byte 44 (map tag_text (x ∷ xs)) ≡ join_with_byte 44 (map tag_text (y ∷ ys)) = cc in
-    map_once IsFreeTag tag_text tag_once (x ∷ xs) (y ∷ ys) hx hy
+    map_once IsClearTag tag_text tag_once (x ∷ xs) (y ∷ ys) hx hy
     (join_once 44 (tag_text x) (tag_text y) (map tag_text xs) (map tag_text ys)
-    (each_mapped tag_text IsFreeTag (Lacks 44) tag_lacks (x ∷ xs) hx) (each_mapped tag_text IsFreeTag (Lacks 44) tag_lacks (y ∷ ys) hy) text)
+    (each_mapped tag_text IsClearTag (Lacks 44) clear_tag_lacks (x ∷ xs) hx) (each_mapped tag_text IsClearTag (Lacks 44) clear_tag_lacks (y ∷ ys) hy) text)
 
 container_once : (a b : Option (List ℕ)) → container_part a ≡ container_part b → a ≡ b
 container_once (Some a) (Some b) e = let text : a ≡ b = cc in ap Some text
@@ -280,8 +288,8 @@ kind_part Distribution = (letter 100 (lit< tt) (lit< tt), tt)
 number_part : (a : Number) → AllByRecursion PartByte (number_text a)
 number_part a = each_weaker IsNoSeparator PartByte (λ b p. (p.2, p.3)) (number_text a) (number_plain a)
 
-tag_part : (a : Tag) → IsFreeTag a → AllByRecursion PartByte (tag_text a)
-tag_part a h = each_weaker TagByte PartByte (λ b p. (p.1, p.2)) (tag_text a) (tag_bytes a h)
+tag_part : (a : Tag) → IsClearTag a → AllByRecursion PartByte (tag_text a)
+tag_part a h = each_weaker IsNoTagEnd PartByte (λ b p. (p.1, p.2)) (tag_text a) (tag_bytes a h)
 
 abbrev PlainParts : List (List ℕ) → Type 0
 PlainParts parts = AllByRecursion (AllByRecursion PartByte) parts
@@ -290,13 +298,13 @@ rate_bytes : (o : Option Number) → PlainParts (rate_part o)
 rate_bytes (Some r) = ((letter 64 (lit< tt) (lit< tt), number_part r), tt)
 rate_bytes None = tt
 
-tags_bytes : (tags : List Tag) → AllByRecursion IsFreeTag tags → PlainParts (tags_part tags)
+tags_bytes : (tags : List Tag) → AllByRecursion IsClearTag tags → PlainParts (tags_part tags)
 tags_bytes [] h = tt
 tags_bytes (tag ∷ tags) h = (
   (
     letter 35 (lit< tt) (lit< tt),
     each_joined PartByte 44 (letter 44 (lit< tt) (lit< tt)) (map tag_text (tag ∷ tags))
-        (each_mapped tag_text IsFreeTag (AllByRecursion PartByte) tag_part (tag ∷ tags) h),
+        (each_mapped tag_text IsClearTag (AllByRecursion PartByte) tag_part (tag ∷ tags) h),
   ),
   tt,
 )
@@ -316,7 +324,7 @@ time_bytes (Some t) = (
 )
 time_bytes None = tt
 
-front_bytes : (m : Metric) → IsFreeOfSeparators m → AllByRecursion PartByte (front_of m)
+front_bytes : (m : Metric) → IsClear m → AllByRecursion PartByte (front_of m)
 front_bytes m h =
     each_append PartByte m.name (58 ∷ join_with_byte 58 (map number_text m.numbers)) (plain_part m.name h.name) (
       letter 58 (lit< tt) (lit< tt),
@@ -324,7 +332,7 @@ front_bytes m h =
           (each_image number_text (AllByRecursion PartByte) number_part m.numbers),
     )
 
-parts_bytes : (m : Metric) → IsFreeOfSeparators m → PlainParts (parts_of m)
+parts_bytes : (m : Metric) → IsClear m → PlainParts (parts_of m)
 parts_bytes m h = (
   front_bytes m h,
   (
@@ -332,23 +340,23 @@ parts_bytes m h = (
     each_append (AllByRecursion PartByte) (rate_part m.rate) (tags_part m.tags ++ (container_part m.container ++ time_part m.time))
         (rate_bytes m.rate)
         (each_append (AllByRecursion PartByte) (tags_part m.tags) (container_part m.container ++ time_part m.time)
-        (tags_bytes m.tags (recursion_from_All IsFreeTag m.tags h.tags))
+        (tags_bytes m.tags (recursion_from_All IsClearTag m.tags h.tags))
         (each_append (AllByRecursion PartByte) (container_part m.container) (time_part m.time) (container_bytes m.container h.container)
         (time_bytes m.time))),
   ),
 )
 
-pub lacks_bars : (m : Metric) → IsFreeOfSeparators m → AllByRecursion (Lacks 124) (parts_of m)
-lacks_bars m h =
+pub clear_lacks_bars : (m : Metric) → IsClear m → AllByRecursion (Lacks 124) (parts_of m)
+clear_lacks_bars m h =
     each_weaker (AllByRecursion PartByte) (Lacks 124) (λ part p. each_weaker PartByte (λ b. b ≢ 124) (λ b q. q.0) part p) (parts_of m)
     (parts_bytes m h)
 
-pub line_once : (a b : Metric) → IsFreeOfSeparators a → IsFreeOfSeparators b → line_of a ≡ line_of b → a ≡ b
+pub line_once : (a b : Metric) → IsClear a → IsClear b → line_of a ≡ line_of b → a ≡ b
 line_once a b ha hb e =
     let joined : join_with_byte 124 (parts_of a) ≡ join_with_byte 124 (parts_of b) = sym (line_of-joined a) ∙ e ∙ line_of-joined b in
     let parts : parts_of a ≡ parts_of b =
-    join_once 124 (front_of a) (front_of b) (kind_text a.kind ∷ last_of a) (kind_text b.kind ∷ last_of b) (lacks_bars a ha)
-    (lacks_bars b hb) joined in
+    join_once 124 (front_of a) (front_of b) (kind_text a.kind ∷ last_of a) (kind_text b.kind ∷ last_of b) (clear_lacks_bars a ha)
+    (clear_lacks_bars b hb) joined in
     let front : front_of a ≡ front_of b = cc parts in
     let kinds : kind_text a.kind ≡ kind_text b.kind = cc parts in
     let tail : last_of a ≡ last_of b = cc parts in
@@ -373,7 +381,7 @@ line_once a b ha hb e =
     (passes_container a.container) (passes_container b.container) (stops_container a.time) (stops_container b.time) after_tags in
     let rate : a.rate ≡ b.rate = rate_once a.rate b.rate rates in
     let tag : a.tags ≡ b.tags =
-    tags_once a.tags b.tags (recursion_from_All IsFreeTag a.tags ha.tags) (recursion_from_All IsFreeTag b.tags hb.tags) tags in
+    tags_once a.tags b.tags (recursion_from_All IsClearTag a.tags ha.tags) (recursion_from_All IsClearTag b.tags hb.tags) tags in
     let container : a.container ≡ b.container = container_once a.container b.container containers in
     let time : a.time ≡ b.time = time_once a.time b.time times in
     λ i. record { name = name i; numbers = numbers i; kind = kind i; rate = rate i; tags = tag i; container = container i; time = time i }
@@ -393,14 +401,14 @@ line_some : (m : Metric) → line_of m ≡ [] → ⊥
 line_some m e = absurd (omega (arith, ap (λ t. length t) e, line_is_not_empty m))
 
 -- A line has no newline.
-pub line_lacks : (m : Metric) → IsFreeOfSeparators m → Lacks 10 (line_of m)
-line_lacks m h =
+pub clear_line_lacks : (m : Metric) → IsClear m → Lacks 10 (line_of m)
+clear_line_lacks m h =
     subst (λ t. Lacks 10 t) (sym (line_of-joined m)) (each_joined (λ b. b ≢ 10) 124 (λ e. absurd (omega arith)) (parts_of m)
     (each_weaker (AllByRecursion PartByte) (Lacks 10) (λ part p. each_weaker PartByte (λ b. b ≢ 10) (λ b q. q.1) part p) (parts_of m)
     (parts_bytes m h)))
 
 -- Two lists of metrics whose lines with their newlines are the same text are the same list.
-lines_once : (xs ys : List Metric) → AllByRecursion IsFreeOfSeparators xs → AllByRecursion IsFreeOfSeparators ys → lines_of xs ≡ lines_of ys → xs ≡ ys
+lines_once : (xs ys : List Metric) → AllByRecursion IsClear xs → AllByRecursion IsClear ys → lines_of xs ≡ lines_of ys → xs ≡ ys
 lines_once [] [] hx hy e = refl
 lines_once [] (y ∷ ys) hx hy e =
     absurd (omega (arith, ap (λ t. length t) e, length-append (line_of y ++ 10 ∷ []) (lines_of ys), length-append (line_of y) (10 ∷ [])))
@@ -408,7 +416,7 @@ lines_once (x ∷ xs) [] hx hy e =
     absurd (omega (arith, ap (λ t. length t) e, length-append (line_of x ++ 10 ∷ []) (lines_of xs), length-append (line_of x) (10 ∷ [])))
 lines_once (x ∷ xs) (y ∷ ys) (hx, hxs) (hy, hys) e =
     let (line, rest) =
-    cut_at 10 (line_of x) (line_of y) (10 ∷ lines_of xs) (10 ∷ lines_of ys) (line_lacks x hx) (line_lacks y hy) refl refl
+    cut_at 10 (line_of x) (line_of y) (10 ∷ lines_of xs) (10 ∷ lines_of ys) (clear_line_lacks x hx) (clear_line_lacks y hy) refl refl
     (sym (append_assoc (line_of x) (10 ∷ []) (lines_of xs))
     ∙ e ∙ append_assoc (line_of y) (10 ∷ []) (lines_of ys)) in
     let tail : lines_of xs ≡ lines_of ys = cc rest in
@@ -417,25 +425,35 @@ lines_once (x ∷ xs) (y ∷ ys) (hx, hxs) (hy, hys) e =
     λ i. head i ∷ same i
 
 -- A single line has no newline, so it is not a list of lines with their newlines.
-not_alone : (xs : List Metric) (y : Metric) → IsFreeOfSeparators y → lines_of xs ≡ line_of y → ⊥
+not_alone : (xs : List Metric) (y : Metric) → IsClear y → lines_of xs ≡ line_of y → ⊥
 not_alone [] y hy e = line_some y (sym e)
 not_alone (x ∷ xs) y hy e = lacks_no 10 (line_of x) (lines_of xs) (subst (λ t. Lacks 10 t) (sym e
-    ∙ append_assoc (line_of x) (10 ∷ []) (lines_of xs)) (line_lacks y hy))
+    ∙ append_assoc (line_of x) (10 ∷ []) (lines_of xs)) (clear_line_lacks y hy))
 
-pub packet_once : (xs ys : List Metric) (packet : List ℕ) → All IsFreeOfSeparators xs → All IsFreeOfSeparators ys → IsPacketOf xs packet
+pub packet_once : (xs ys : List Metric) (packet : List ℕ) → All IsClear xs → All IsClear ys → IsPacketOf xs packet
     → IsPacketOf ys packet → xs ≡ ys
 packet_once xs ys packet hx hy (inl e) (inl f) =
-    lines_once xs ys (recursion_from_All IsFreeOfSeparators xs hx) (recursion_from_All IsFreeOfSeparators ys hy) (sym e
+    lines_once xs ys (recursion_from_All IsClear xs hx) (recursion_from_All IsClear ys hy) (sym e
     ∙ f)
 packet_once xs ys packet hx hy (inl e) (inr (y, only, f)) =
-    absurd (not_alone xs y (All-head IsFreeOfSeparators y [] (subst (λ l. All IsFreeOfSeparators l) only hy)) (sym e
+    absurd (not_alone xs y (All-head IsClear y [] (subst (λ l. All IsClear l) only hy)) (sym e
     ∙ f))
 packet_once xs ys packet hx hy (inr (x, only, e)) (inl f) =
-    absurd (not_alone ys x (All-head IsFreeOfSeparators x [] (subst (λ l. All IsFreeOfSeparators l) only hx)) (sym f
+    absurd (not_alone ys x (All-head IsClear x [] (subst (λ l. All IsClear l) only hx)) (sym f
     ∙ e))
 packet_once xs ys packet hx hy (inr (x, onlyx, e)) (inr (y, onlyy, f)) =
     let same : x ≡ y =
-    line_once x y (All-head IsFreeOfSeparators x [] (subst (λ l. All IsFreeOfSeparators l) onlyx hx))
-    (All-head IsFreeOfSeparators y [] (subst (λ l. All IsFreeOfSeparators l) onlyy hy)) (sym e
+    line_once x y (All-head IsClear x [] (subst (λ l. All IsClear l) onlyx hx))
+    (All-head IsClear y [] (subst (λ l. All IsClear l) onlyy hy)) (sym e
     ∙ f) in
     onlyx ∙ ap (λ m. m ∷ []) same ∙ sym onlyy
+
+-- The same of tags, fields and lines that are free of separators.
+pub tag_lacks : (a : Tag) → IsFreeTag a → Lacks 44 (tag_text a)
+tag_lacks a h = clear_tag_lacks a (free_tag_clear a h)
+
+pub lacks_bars : (m : Metric) → IsFreeOfSeparators m → AllByRecursion (Lacks 124) (parts_of m)
+lacks_bars m h = clear_lacks_bars m (free_clear m h)
+
+pub line_lacks : (m : Metric) → IsFreeOfSeparators m → Lacks 10 (line_of m)
+line_lacks m h = clear_line_lacks m (free_clear m h)

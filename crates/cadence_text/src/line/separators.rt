@@ -1,7 +1,7 @@
 //! The separators of a line: the bytes that end a name, a tag or a container id in it.
 ghost use Rattle.std.specs.Prelude.{◌≡◌, ◌<◌, ◌≤◌, ◌↔◌, ℕ, IsTrue, length, slice_index};
-ghost use Rattle.cadence_text.specs.FreeTexts.{is_free_text};
-ghost use Rattle.cadence_text.specs.OneReading.{AreSeparatorFlags, IsFreeText, IsNoSeparator};
+ghost use Rattle.cadence_text.specs.FreeTexts.{is_free_after_key, is_free_text};
+ghost use Rattle.cadence_text.specs.OneReading.{AreSeparatorFlags, IsFreeAfterKey, IsFreeText, IsNoSeparator, IsNoTagEnd};
 
 // For each byte, 1 if it is a separator and 0 otherwise. A look at this table takes fewer instructions than comparisons.
 const FLAGS: [u8; 256] = [
@@ -63,10 +63,30 @@ pub fn first_separator(text: &[u8]) -> usize
 }
 
 /// Returns whether a text has no colon, comma, bar or newline. If the name, the tags and the container id of a metric
-/// are such texts, its line can be read in one way only.
+/// are such texts, its line can be read in one way only. A tag may also have colons after its key.
 pub fn is_free(text: &[u8]) -> bool
     ensures test { result ≡ is_free_text text.now }
     ensures free { IsTrue result ↔ IsFreeText text.now }
 {
     first_separator(text) == text.len()
+}
+
+// Returns whether a byte is no separator or a colon, so that it doesn't end a tag.
+fn is_no_tag_end(byte: u8) -> bool
+    ensures { IsTrue result ↔ IsNoTagEnd byte }
+{
+    byte == b':' || is_no_separator(byte)
+}
+
+/// Returns whether a text has no comma, bar or newline. It may have colons, so it can be the text of a tag with a key,
+/// because the first colon of a tag ends the key.
+pub fn is_free_after_key(text: &[u8]) -> bool
+    ensures test { result ≡ is_free_after_key text.now }
+    ensures free { IsTrue result ↔ IsFreeAfterKey text.now }
+{
+    let mut at = first_separator(text);
+    while at < text.len() && is_no_tag_end(text[at]) {
+        at += 1;
+    }
+    at == text.len()
 }

@@ -37,6 +37,6 @@ returns-in-Ok-new-clause-headline g c =
       has_headline kind_of history_of settings capacity ending queue policy steps writer c.no_line_is_empty.ensures c.tight_is_fewest.ensures
           c.in-Ok-new.packing run replies new one_each few runs bound bytes packets,
       is_accounted kind_of history_of settings capacity ending queue policy steps writer c.no_line_is_empty.ensures c.tight_is_fewest.ensures
-          c.in-Ok-new.packing run replies new one_each few runs bound bytes packets c.packets_read_one_way.ensures c.strict_calls_are_free.ensures
-          (λ strict. c.is_strict.ensures.free (c.is_strict.ensures.strict ∙ strict)) c.make_steps-running.ensures.representable,
+          c.in-Ok-new.packing run replies new one_each few runs bound bytes packets c.packets_read_one_way.ensures c.strict_calls_are_clear.ensures
+          (λ strict. c.is_strict.ensures.clear (c.is_strict.ensures.strict ∙ strict)) c.make_steps-running.ensures.representable,
     )

@@ -1,7 +1,7 @@
 //! Compares the lines of two records without storing them.
 ghost use Rattle.std.specs.Prelude.{◌≡◌, ◌↔◌, IsTrue, drop, take};
 ghost use Rattle.cadence_text.specs.Line.{line_of};
-ghost use Rattle.cadence_text.specs.OneReading.{IsFreeOfSeparators};
+ghost use Rattle.cadence_text.specs.OneReading.{IsClear};
 ghost use Rattle.cadence_text.specs.MetricInMemory.{IsMetricInMemory};
 ghost use Rattle.cadence_text.specs.PieceWriters.{window_text};
 
@@ -26,7 +26,7 @@ impl<'a, A: Allocator> Record<'a, A> {
     /// once more for every further 512 bytes.
     pub fn same_line<B: Allocator>(&self, other: &Record<'_, B>) -> bool
         ensures lines { IsTrue result ↔ (line_of self.now ≡ line_of other.now) }
-        ensures metrics { IsFreeOfSeparators self.now → IsFreeOfSeparators other.now →
+        ensures metrics { IsClear self.now → IsClear other.now →
             (IsTrue result ↔ (self.now ≡ other.now)) }
     {
         let mut skip = 0;

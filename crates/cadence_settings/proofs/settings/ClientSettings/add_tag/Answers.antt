@@ -6,8 +6,8 @@ use Rattle.cadence_text.proofs.writing.DraftText.{added_tag}
 use Rattle.cadence_text.specs.Owned.{tag_of_owned}
 use Rattle.std.specs.Prelude.{IsTrue}
 use Rattle.cadence_text.specs.Line.{tags_field}
-use Rattle.cadence_settings.proofs.calls.FreeTexts.{free_with_tag}
-use Rattle.cadence_settings.specs.Settings.{Settings, allows_tag, is_free_settings, with_default_tag}
+use Rattle.cadence_settings.proofs.calls.FreeTexts.{clear_with_tag}
+use Rattle.cadence_settings.specs.Settings.{Settings, allows_tag, is_clear_settings, with_default_tag}
 use Rattle.cadence_settings.specs.SettingsParts.{settings_seen}
 use Rattle.cadence_settings.proofs.settings.ClientSettings.add_tag.Goals as goal
 
@@ -38,8 +38,8 @@ invariant_of-self-2 g c =
     ) in
     record {
       text = text;
-      free = λ strict. subst (λ (l : List Tag). IsTrue (is_free_settings (record (settings_seen inside) { tags = l }))) (sym items)
-          (free_with_tag (settings_seen inside) given strict (c.self.invariant.free strict)
+      clear = λ strict. subst (λ (l : List Tag). IsTrue (is_clear_settings (record (settings_seen inside) { tags = l }))) (sym items)
+          (clear_with_tag (settings_seen inside) given strict (c.self.invariant.clear strict)
           (subst (λ (s : Settings). IsTrue (allows_tag s given)) (sym c.self.view_is) allowed));
     }
 
