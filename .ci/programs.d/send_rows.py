@@ -22,8 +22,11 @@ SENT_TEXTS = [
     (b'g load 1.\n c \nc a 1.50\ng load 00.5\ng load -0.0\n', b'p.load:1|g|#k:v\np.load:0.5|g|#k:v\np.load:0|g|#k:v\n',
      error_lines(b'line 2: ' + WANTS_WORDS, b'line 3: ' + WANTS_VALUES['c'], b'2 of 5 lines: cannot read')),
     (b'g a .5\ng b +3\nc c 1e3\nms d 1.5e3,+2,1e+06,08\nd e -.5E-1,-0.0\nm f 1e+06\ns g 2e0\nh h 1.5e-3,1.5ms\n',
-     b'p.a:0.5|g|#k:v\np.b:3|g|#k:v\np.c:1000|c|#k:v\np.d:1500:2:1000000:8|ms|#k:v\np.e:-0.05:0|d|#k:v\np.f:1000000|m|#k:v\n'
-     b'p.g:2|s|#k:v\np.h:0.0015:1500000|h|#k:v\n', b''),
+     b'p.a:0.5|g|#k:v\np.b:+3|g|#k:v\np.c:1000|c|#k:v\np.d:1500:2:1000000:8|ms|#k:v\np.e:-0.05:0|d|#k:v\np.f:1000000|m|#k:v\n'
+     b'p.g:2e0|s|#k:v\np.h:0.0015:1500000|h|#k:v\n', b''),
+    (b'ms a 1.5\nms b 1ns,1.999999ms\nms c 1.5ms,1.0005s\ns d 9223372036854775808\ns e b,c t\ng f +0 t\ng g +1e-2\n',
+     b'p.a:1.5|ms|#k:v\np.b:0.000001:1.999999|ms|#k:v\np.c:1.5:1000.5|ms|#k:v\np.d:9223372036854775808|s|#k:v\np.e:b,c|s|#k:v,t\n'
+     b'p.f:+0|g|#k:v,t\np.g:+0.01|g|#k:v\n', b''),
     (b'c a 1\nc\nd b 0.5,2\nx y 1\nc z 1.5\n', b'p.a:1|c|#k:v\np.b:0.5:2|d|#k:v\n',
      error_lines(b'line 2: ' + WANTS_WORDS, b'line 4: ' + WANTS_KIND, b'line 5: ' + WANTS_VALUES['c'], b'3 of 5 lines: cannot read')),
     (b'c \xff 1\nc a\0 1\n', b'p.a\0:1|c|#k:v\n', error_lines(b'line 1: ' + WANTS_TEXT, b'1 of 2 lines: cannot read')),
@@ -32,11 +35,10 @@ SENT_TEXTS = [
 UNSENT = [
     (b'c a:b 1', WANTS_NAME), (b'c a 1 b:c|d', WANTS_TAG), (b'c a 1  b  c,d', WANTS_TAG), (b'  c  1  ', WANTS_WORDS),
     *[(text, WANTS_VALUES[text.split()[0].decode()]) for text in [
-        b'c a 1,2', b's a 9223372036854775808', b'm a -1', b'ms a 1.5', b'c a 1.5', b'c a 15e-1',
+        b'c a 1,2', b'm a -1', b'ms a -0.5', b'c a 1.5', b'c a 15e-1', b's a b:c', b's a |', b'g a +', b'g a ++1', b'g a +1,2',
         b'm a -1e3', b'c a 2e19', b'g a 1e', b'g a .', b'g a 1e39', b'g a nan', b'c a 1s', b'h a .5ms', b'h a 1e3ns', b'h a +1s',
         b'g a 1ms', b'd a 1ns',
-        b'ms a 0.5ns', b'ms a -1s', b'ms a 1m', b'ms a s', b'h a 18446744074s', b's users alice', b'ms a 1.5ms',
-        b'ms a 999us', b'ms a 1.0005s', b'ms a 1,1.999999ms']],
+        b'ms a 0.5ns', b'ms a -1s', b'ms a 1m', b'ms a s', b'h a 18446744074s', b'ms a 18446744073709551616ms']],
 ]
 
 # The name of a case, the words, the environment and the input; then the status, the output and the errors.

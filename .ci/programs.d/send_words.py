@@ -27,11 +27,11 @@ WANTS_KIND = b'KIND is c, ms, g, m, h, s, d or the name of one, as in `count vis
 WANTS_NAME = b'NAME has no colon, comma, bar or newline, as in `c site.visits 1`'
 WANTS_VALUES = {
     'c': b'VALUE of c is a whole number, as in `c visits 1`',
-    'ms': b'VALUE of ms is whole milliseconds, or durations of whole milliseconds, as in `ms wait 12,1.25s`',
-    'g': b'VALUE of g is a number, as in `g load 0.75`',
+    'ms': b'VALUE of ms is milliseconds from 0, or durations, as in `ms wait 12.5,1.25s`',
+    'g': b'VALUE of g is a number, or a change as +5, as in `g load 0.75`',
     'm': b'VALUE of m is a whole number from 0, as in `m requests 1`',
     'h': b'VALUE of h is numbers, or durations, which are sent in nanoseconds, as in `h size 0.75,12`',
-    's': b'VALUE of s is a whole number and no name, as in `s users 42`',
+    's': b'VALUE of s has no colon, bar or newline, as in `s users alice`',
     'd': b'VALUE of d is numbers, as in `d size 0.75,12`',
 }
 WANTS_TAG = b'TAG is K:V or V, and has no comma, bar or newline, as in `c visits 1 page:home`'
@@ -91,6 +91,8 @@ UNUSABLE = [
     (['c', 'a:b', '1'], WANTS_NAME),
     (['c', 'visits', 'one'], WANTS_VALUES['c']),
     (['g', 'load', '-1one'], WANTS_VALUES['g']),
+    (['g', 'load', '+one'], WANTS_VALUES['g']),
+    *[(['s', 'users', member], WANTS_VALUES['s']) for member in ['', 'a:b', 'a|b', 'a\nb']],
     (['c', 'visits', '1', 'a,b'], WANTS_TAG),
     (['c', b'\xff', '1'], b'a word of the command line is ' + WANTS_TEXT),
     *[(words, WANTS_EVENT) for words in (['event'], ['event', 'Deploy'])],
@@ -135,7 +137,12 @@ WRITTEN = [
     (['d', 'x', '-1,2'], b'x:-1:2|d\n'),
     (['c', ' a', '1'], b' a:1|c\n'),
     (['g', 'load', '-.5e1'], b'load:-5|g\n'),
-    (['g', 'load', '+3'], b'load:3|g\n'),
+    (['g', 'load', '+3'], b'load:+3|g\n'),
+    (['g', 'load', '+.50e1'], b'load:+5|g\n'),
+    (['s', 'users', 'alice,bob b'], b'users:alice,bob b|s\n'),
+    (['s', 'users', '+042'], b'users:+042|s\n'),
+    (['ms', 'rtt', '12.5'], b'rtt:12.5|ms\n'),
+    (['ms', 'took', '1.2345s,999us'], b'took:1234.5:0.999|ms\n'),
     (['--sample', '1', 'c', 'a', '1'], b'a:1|c|@1\n'),
     (EVENT, b'_e{6,11}:Deploy|version 2.1\n'),
     (CHECK, b'_sc|web|2\n'),

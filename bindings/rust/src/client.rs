@@ -328,8 +328,9 @@ calls! {
     Counted of Counter, ToCounterValue: count count_with_tags
 }
 calls! {
-    /// Timers. A value is a number of milliseconds as `u64`, a `Duration`, which is rounded down to whole milliseconds,
-    /// or a `Vec` of either, which makes one line.
+    /// Timers. A value is a number of milliseconds as `u64`, one with a fraction as `f64`, which is rounded to six
+    /// places, a `Duration`, which is rounded down to whole milliseconds, or a `Vec` of one of these, which makes one
+    /// line. Some [floats](crate#floats) are refused.
     Timed of Timer, ToTimerValue: time time_with_tags
 }
 calls! {

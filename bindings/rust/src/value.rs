@@ -92,11 +92,13 @@ value_trait! {
 }
 
 value_trait! {
-    /// The types that a timer accepts: `u64` for milliseconds, `Duration`, which is rounded down to whole milliseconds,
-    /// and a `Vec` of either.
+    /// The types that a timer accepts: `u64` for milliseconds, `f64` for milliseconds with a fraction, which is rounded
+    /// to six places, `Duration`, which is rounded down to whole milliseconds, and a `Vec` of one of these.
     ToTimerValue:
     u64 => |n| Ok(MetricValue::Unsigned(n));
+    f64 => |x| Ok(MetricValue::Float(x));
     Vec<u64> => |ns| Ok(MetricValue::PackedUnsigned(ns));
+    Vec<f64> => |xs| Ok(MetricValue::PackedFloat(xs));
     Duration => |d| Ok(MetricValue::Unsigned(fitting(d.as_millis())?));
     Vec<Duration> => |ds| packed_durations(&ds, Duration::as_millis);
 }

@@ -29,6 +29,8 @@ fn each_kind_has_its_values() {
         (line(c.incr("k")), "p.k:1|c"),
         (line(c.decr("k")), "p.k:-1|c"),
         (line(c.time("k", 25)), "p.k:25|ms"),
+        (line(c.time("k", 12.5)), "p.k:12.5|ms"),
+        (line(c.time("k", vec![0.25, 1.234_567_8])), "p.k:0.25:1.234568|ms"),
         (line(c.time("k", Duration::from_micros(1_999))), "p.k:1|ms"),
         (line(c.time("k", vec![1u64, 22, 333])), "p.k:1:22:333|ms"),
         (line(c.time("k", vec![ms(157), ms(158)])), "p.k:157:158|ms"),

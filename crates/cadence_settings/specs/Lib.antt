@@ -4,6 +4,7 @@ pub mod DraftErrors
 pub mod Laws
 pub mod Settings
 pub mod SettingsParts
+pub mod TextCalls
 pub use Rattle.cadence_errors.specs.Errors
 pub use Rattle.cadence_text.specs.Line
 pub use Rattle.cadence_text.specs.Metric

@@ -13,5 +13,6 @@ mod settings;
 pub use call::{Call, CallOption, CallValue};
 pub use laws::{an_option_is_chosen, strict_calls_are_clear};
 pub use settings::{
-    ClientSettings, DraftError, Separator, formatted_prefix, tag_is_clear, text_is_free,
+    ClientSettings, DraftError, Separator, TextError, UnfitText, formatted_prefix, tag_is_clear,
+    text_is_free,
 };

@@ -1,8 +1,9 @@
 //! The settings of a client: the prefix, the default tags and the default container that it adds to each call, and the
 //! lines and drafts of calls with them. `record` makes records of calls in place of lines, and `strict` has the tests of
-//! strict settings.
+//! strict settings. `text` makes the drafts of calls whose value is a text.
 mod record;
 mod strict;
+mod text;
 
 ghost use Rattle.std.specs.Prelude.{◌≡◌, [], IfOk, IfErr, IfSome, IsTrue, OnErr, OnOk, Some, string_bytes};
 ghost use Rattle.std.specs.Option.{option_copied};
@@ -24,6 +25,7 @@ use cadence_value::value::MetricValue;
 use std::alloc::{AllocError, Allocator, Global};
 use std::marker::Model;
 pub use strict::{DraftError, Separator, tag_is_clear, text_is_free};
+pub use text::{TextError, UnfitText};
 
 // How many bytes a draft reserves for the tags and other options of the call itself.
 const OWN_BYTES: usize = 96;
@@ -122,7 +124,8 @@ impl<A: Allocator + Clone> ClientSettings<A> {
     ///
     /// # Errors
     /// An error of kind `InvalidInput` (`separator in a text`) if and only if the settings are strict and a text of the
-    /// tag has a separator, other than a colon after a key. Otherwise `SinkError::OutOfMemory`. After an error the settings are unchanged.
+    /// tag has a separator, other than a colon after a key. Otherwise `SinkError::OutOfMemory`. After an error the
+    /// settings are unchanged.
     pub fn add_tag(&mut self, key: Option<&str>, text: &str) -> MetricResult<()>
         ensures ok { OnOk result (self.new ≡
             with_default_tag self.old (record { key = option_copied key.entry; text = text.now })) }

@@ -13,13 +13,27 @@ pub record Draft : Type 0 where
   pub container : Option (List ℕ)
   pub time : Option ℕ
 
--- the head, with which each line begins: the name, the numbers and the kind
-abbrev pub head_text : List ℕ → List Number → MetricType → List ℕ
-head_text name numbers kind = name ++ (codes ":" ++ (numbers_text numbers ++ (codes "|" ++ kind_text kind)))
+-- the head, with which each line begins: the name, the text of the value and the kind
+abbrev pub head_with : List ℕ → List ℕ → MetricType → List ℕ
+head_with name value kind = name ++ (codes ":" ++ (value ++ (codes "|" ++ kind_text kind)))
 
--- the draft of a metric
+-- the head whose value is these numbers
+abbrev pub head_text : List ℕ → List Number → MetricType → List ℕ
+head_text name numbers kind = head_with name (numbers_text numbers) kind
+
+-- the draft that has this text as its value, and all else from the metric
+abbrev pub draft_with : List ℕ → Metric → Draft
+draft_with value m = record {
+  head = head_with m.name value m.kind;
+  tags = tags_field m.tags;
+  rate = m.rate;
+  container = m.container;
+  time = m.time;
+}
+
+-- the draft of a metric, whose value is its numbers
 abbrev pub draft_of : Metric → Draft
-draft_of m = record { head = head_text m.name m.numbers m.kind; tags = tags_field m.tags; rate = m.rate; container = m.container; time = m.time }
+draft_of m = draft_with (numbers_text m.numbers) m
 
 -- the line of a draft, in which the rate comes between the head and the tags
 abbrev pub draft_line : Draft → List ℕ

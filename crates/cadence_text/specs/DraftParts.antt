@@ -17,9 +17,13 @@ pub record IsRepresentableHead {Z : Type 0} (h : Head Z) : Type 0 where
   pub name : IsUtf8 (h.prefix.now ++ h.key.now)
   pub numbers : All IsDecimal (numbers_of h.value)
 
+-- the draft of the text of a head, a text of tags and a container id, without a rate and a time
+abbrev pub plain_draft : List ℕ → List ℕ → Option (List ℕ) → Draft
+plain_draft head tags container = record { head = head; tags = tags; rate = None; container = container; time = None }
+
 -- the draft of a head, a text of tags and a container id, without a rate and a time
 abbrev pub draft_of_head : {Z : Type 0} → Head Z → List ℕ → Option (List ℕ) → Draft
-draft_of_head head tags container = record { head = text_of_head head; tags = tags; rate = None; container = container; time = None }
+draft_of_head head tags container = plain_draft (text_of_head head) tags container
 
 -- the draft of a `DraftLine`, which stores the head and the tags as one text, and how long the head is
 abbrev pub draft_of_inside : {Z : Type 0} → Inside Z → Draft

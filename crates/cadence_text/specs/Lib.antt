@@ -12,3 +12,4 @@ pub mod PieceWriters
 pub mod Owned
 pub mod Rate
 pub mod Representable
+pub mod TextValue

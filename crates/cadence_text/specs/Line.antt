@@ -44,8 +44,13 @@ abbrev pub time_field : Option ℕ → List ℕ
 time_field None = []
 time_field (Some time) = codes "|T" ++ decimal_text time
 
--- the line of a metric: the name, the numbers, the kind, and then each optional field that the metric has
-unfoldable pub line_of : Metric → List ℕ
-line_of m =
-    m.name ++ (codes ":" ++ (numbers_text m.numbers ++ (codes "|" ++ (kind_text m.kind
+-- the line that has this text as its value, and all else from the metric: the name, the value, the kind, and then each
+-- optional field that the metric has
+abbrev pub line_with : List ℕ → Metric → List ℕ
+line_with value m =
+    m.name ++ (codes ":" ++ (value ++ (codes "|" ++ (kind_text m.kind
     ++ (rate_field m.rate ++ (tags_field m.tags ++ (container_field m.container ++ time_field m.time)))))))
+
+-- the line of a metric, whose value is its numbers
+unfoldable pub line_of : Metric → List ℕ
+line_of m = line_with (numbers_text m.numbers) m

@@ -14,7 +14,7 @@ mod tag;
 mod window;
 
 use cadence_value::text::PieceWriter;
-pub use draft::{DraftLine, Head, TagsText};
+pub use draft::{DraftLine, Head, TagsText, TextValue, is_member};
 pub use record::{OwnedMetric, Record};
 pub use separators::{first_separator, is_free, is_free_after_key};
 use std::fmt;

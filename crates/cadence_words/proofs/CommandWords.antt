@@ -1,18 +1,14 @@
 -- What words ask for is what the first of them says.
-use Rattle.std.proofs.Common.{◌≡◌, ◌⊎◌, ℕ, List, [], ◌∷◌, Result, Ok, Err, ap, arith, get_or, inl, inr, sym, ◌∙◌}
+use Rattle.std.proofs.Common.{◌≡◌, ◌⊎◌, ℕ, List, [], ◌∷◌, ap, arith, get_or, inl, inr}
 use Rattle.std.specs.Prelude.{codes}
-use Rattle.cadence_errors.specs.declared.input_error.InputError.{InputError}
-use Rattle.cadence_errors.specs.declared.input_error.InputError.TheVariants.{Unusable, OutOfMemory}
 use Rattle.cadence_text.specs.declared.line.MetricType.{MetricType}
 use Rattle.cadence_text.specs.declared.line.MetricType.TheVariants.{Counter, Timer, Gauge, Meter, Histogram, Set, Distribution}
 use Rattle.cadence_words.specs.Asked.{NamesKind}
 use Rattle.cadence_words.specs.Commands.{IsLineOfCommand, first_word}
 use Rattle.cadence_words.specs.Events.{IsLineOfCheck, IsLineOfEvent}
-use Rattle.cadence_words.specs.Finds.{FindsOrFails}
 use Rattle.cadence_words.specs.Lines.{IsLineOfWords}
 use Rattle.cadence_words.specs.declared.defaults.Defaults.{Defaults}
 use Rattle.cadence_words.specs.declared.events.Fields.{Fields}
-use Rattle.cadence_words.specs.declared.word_error.Part.{Part}
 
 -- the second byte of a word
 abbrev second : List ℕ → ℕ

@@ -15,7 +15,7 @@ use Rattle.cadence_value.proofs.lists.SplitTexts.{cut_once, each_weaker, Passes,
 use Rattle.cadence_value.proofs.digits.NumberText.{IsNumberByte}
 use Rattle.cadence_value.specs.DenotedNumber.{Denotes}
 use Rattle.cadence_words.proofs.Lowest.{said_bytes, says_once}
-use Rattle.cadence_value.specs.Number.{IsDecimal, Number, natural}
+use Rattle.cadence_value.specs.Number.{IsDecimal, Number}
 
 first : {xs ys : List ℕ} → xs ≡ ys → get_or xs 0 0 ≡ get_or ys 0 0
 first e = ap (λ t. get_or t 0 0) e
@@ -114,28 +114,19 @@ nanos_once word a b h k =
     (subst (λ v. IsNanos h.number v a) (unit_once h.unit k.unit units) h.is))
     k.is
 
--- If the count fits 64 bits, then the nanoseconds fit 128 bits.
-pub few_nanos : (kind : MetricType) (nanos count : ℕ) → CountsNanos kind nanos count → count < 2 ^ 64 → nanos < 2 ^ 128
-few_nanos Counter nanos count h fits = absurd h
-few_nanos Timer nanos count h fits = omega (arith, h, fits)
-few_nanos Gauge nanos count h fits = absurd h
-few_nanos Meter nanos count h fits = absurd h
-few_nanos Histogram nanos count h fits = omega (arith, h, fits)
-few_nanos Set nanos count h fits = absurd h
-few_nanos Distribution nanos count h fits = absurd h
+-- Nanoseconds that a kind counts fit 128 bits.
+pub few_nanos : (kind : MetricType) (nanos : ℕ) (n : Number) → CountsNanos kind nanos n → nanos < 2 ^ 128
+few_nanos Counter nanos n h = absurd h
+few_nanos Timer nanos n h = omega (arith, h.1)
+few_nanos Gauge nanos n h = absurd h
+few_nanos Meter nanos n h = absurd h
+few_nanos Histogram nanos n h = omega (arith, h.1)
+few_nanos Set nanos n h = absurd h
+few_nanos Distribution nanos n h = absurd h
 
--- A duration has at most one count for each kind.
-pub counts_once : (kind : MetricType) (nanos a b : ℕ) → CountsNanos kind nanos a → CountsNanos kind nanos b → a ≡ b
-counts_once Counter nanos a b h k = absurd h
-counts_once Timer nanos a b h k = omega (arith, h, k)
-counts_once Gauge nanos a b h k = absurd h
-counts_once Meter nanos a b h k = absurd h
-counts_once Histogram nanos a b h k = h ∙ sym k
-counts_once Set nanos a b h k = absurd h
-counts_once Distribution nanos a b h k = absurd h
-
-pub duration_found : (kind : MetricType) (word : List ℕ) (nanos count : ℕ) (r : Option Number) → IsTimeWord word nanos
-    → CountsNanos kind nanos count → count < 2 ^ 64 → Finds (λ n. n ≡ natural count) r → Finds (IsDurationWord kind word) r
-duration_found kind word nanos count (Some n) written counts fits h =
-    record { nanos = nanos; count = count; written = written; counts = counts; fits = fits; is = h }
-duration_found kind word nanos count None written counts fits h = absurd (h (natural count) refl)
+-- A word that says a duration says the count of it.
+pub duration_found : (kind : MetricType) (word : List ℕ) (nanos : ℕ) (r : Option Number) → IsTimeWord word nanos
+    → Finds (CountsNanos kind nanos) r → Finds (IsDurationWord kind word) r
+duration_found kind word nanos (Some n) written h = record { nanos = nanos; written = written; counts = h }
+duration_found kind word nanos None written h = λ n d.
+    h n (subst (λ m. CountsNanos kind m n) (nanos_once word d.nanos nanos d.written written) d.counts)

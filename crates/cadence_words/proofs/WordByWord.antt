@@ -2,14 +2,15 @@
 use Rattle.std.proofs.Common.{◌≡◌, ◌≢◌, ℕ, zero, suc, ◌+◌, ◌<◌, ◌≤◌, ◌-◌, ◌⊎◌, Bor, drop, map, Result, Ok, Err, ◌++◌, List, [], ◌∷◌, length}
 use Rattle.std.proofs.Common.{take, get_or, refl, sym, ap, ◌∙◌, subst, arith, Option, Some, None, inl, inr, eqb}
 use Rattle.std.specs.Prelude.{All, IfSome}
-use Rattle.std.specs.List.{AllZip, slice_split}
+use Rattle.std.specs.List.{AllZip, fold, slice_split}
 use Rattle.std.specs.Str.{IsUtf8}
 use Rattle.std.proofs.lemmas.Bool.{ne_eqb}
 use Rattle.std.proofs.lemmas.List.{append_assoc, append-nil, get_or-map, length-drop, length-map, take_all, take_more}
 use Rattle.std.proofs.lemmas.List.Elements.{recursion_from_All}
 use Rattle.std.proofs.lemmas.List.Splits.{slice_split_none}
+use Rattle.std.proofs.lemmas.List.Sums.{fold-append}
 use Rattle.std.proofs.lemmas.Slice.Zip.{all_zipped_more, AllZip-long}
-use Rattle.cadence_words.specs.Asked.{AddsTags, AreHead, IsNumberWord, IsPlainWord, IsTagWord, IsValueWord, AllowsSeveral, words_of}
+use Rattle.cadence_words.specs.Asked.{AddsTags, AreHead, Asked, IsNumberWord, IsPlainWord, IsTagWord, IsValueWord, AllowsSeveral, words_of}
 use Rattle.cadence_words.specs.Duration.{IsDurationWord}
 use Rattle.cadence_value.specs.Finds.{Finds}
 use Rattle.cadence_words.specs.Finds.{FailsAsWord, FindsOrFails}
@@ -17,8 +18,8 @@ use Rattle.cadence_errors.specs.declared.input_error.InputError.{InputError}
 use Rattle.cadence_words.specs.declared.word_error.Part.{Part}
 use Rattle.cadence_errors.specs.declared.input_error.InputError.TheVariants.{Unusable, OutOfMemory}
 use Rattle.cadence_words.specs.Lines.{IsLineOfText, IsLineOfWords, asked_metric, with_rate_and_time}
-use Rattle.cadence_text.specs.Draft.{Draft, draft_of}
-use Rattle.cadence_text.specs.Line.{line_of}
+use Rattle.cadence_text.specs.Draft.{Draft, draft_line, draft_of, draft_with, with_tag_text}
+use Rattle.cadence_text.proofs.writing.DraftText.{line_of_draft_with, tagged_draft}
 use Rattle.cadence_words.specs.declared.defaults.Defaults.{Defaults}
 use Rattle.cadence_settings.specs.Call.{metric_of_call, plain_call}
 use Rattle.cadence_settings.specs.Settings.{Settings}
@@ -27,7 +28,7 @@ use Rattle.cadence_text.specs.declared.line.MetricType.{MetricType}
 use Rattle.cadence_text.specs.Metric.{Metric, Tag, with_tag}
 use Rattle.cadence_text.specs.OneReading.{IsClearAfter, IsFreeAfterKey, IsFreeText}
 use Rattle.cadence_value.proofs.lists.SplitTexts.{Lacks, cut_at, lacks_no}
-use Rattle.cadence_value.specs.Number.{Number}
+use Rattle.cadence_value.specs.Number.{Number, numbers_text}
 
 -- the texts of borrowed words
 abbrev pub texts : List (Bor (List ℕ)) → List (List ℕ)
@@ -73,6 +74,12 @@ pub hands_on : {C X Y W : Type 0} (Has : X → Type 0) (view : C → X) (HasPart
     → r ≡ Err error → ((x : X) → Has x → (y : Y) × HasPart y) → FailsAsWord HasPart error → FindsOrFails Has view r
 hands_on Has view HasPart r (Unusable why) is from none = rw is (λ x h. let p = from x h in none p.0 p.1)
 hands_on Has view HasPart r OutOfMemory is from none = rw is tt
+
+-- The same of the error alone.
+pub fails_on : {X Y W : Type 0} (Has : X → Type 0) (HasPart : Y → Type 0) (error : InputError W)
+    → ((x : X) → Has x → (y : Y) × HasPart y) → FailsAsWord HasPart error → FailsAsWord Has error
+fails_on Has HasPart (Unusable why) from none = λ x h. let p = from x h in none p.0 p.1
+fails_on Has HasPart OutOfMemory from none = tt
 
 -- A word without a comma is one item.
 one_item : (word : List ℕ) → All (λ b. b ≢ 44) word → slice_split (λ b. eqb b 44) word ≡ word ∷ []
@@ -151,6 +158,12 @@ pub plain_time : (s : Settings) (kind : MetricType) (name : List ℕ) (ns : List
 unfolding metric_of_call
 plain_time s kind name ns = refl
 
+-- The draft of the metric of a call has the numbers of the call as its value.
+pub plain_value : (s : Settings) (kind : MetricType) (name : List ℕ) (ns : List Number)
+    → draft_of (metric_of_call s (plain_call kind name ns)) ≡ draft_with (numbers_text ns) (metric_of_call s (plain_call kind name []))
+unfolding metric_of_call
+plain_value s kind name ns = refl
+
 -- If all words are tags, then each of them is a tag.
 pub tag_of_word : (front rest : List (List ℕ)) (word : List ℕ) (tags : List Tag) → AllZip IsTagWord (front ++ word ∷ rest) tags
     → (tag : Tag) × IsTagWord word tag
@@ -166,18 +179,26 @@ pub tags_fail : (words : List (List ℕ)) (word : List ℕ) (old new : Draft) (r
 tags_fail words word old new r (Unusable part) is from none = rw is (λ tags h. let p = from tags h in none p.0 p.1)
 tags_fail words word old new r OutOfMemory is from none = rw is tt
 
--- The draft of a metric became the draft of the metric with these tags after its own.
+-- The draft got these tags.
 abbrev pub Tagged : Draft → Draft → List Tag → Type 0
-Tagged old new tags = (m : Metric) → old ≡ draft_of m → new ≡ draft_of (record m { tags = m.tags ++ tags })
+Tagged old new tags = new ≡ fold with_tag_text old tags
 
 -- The draft stays the same if no tags are added, and it has one tag more if one more is added.
 pub tagged_none : (draft : Draft) → Tagged draft draft []
-tagged_none draft m is = is ∙ ap (λ ts. draft_of (record m { tags = ts })) (sym (append-nil m.tags))
+tagged_none draft = refl
 
-pub tagged_more : (old mid new : Draft) (tags : List Tag) (tag : Tag) → Tagged old mid tags
-    → ((m : Metric) → mid ≡ draft_of m → new ≡ draft_of (with_tag m tag)) → Tagged old new (tags ++ tag ∷ [])
-tagged_more old mid new tags tag was is m of =
-    is (record m { tags = m.tags ++ tags }) (was m of) ∙ ap (λ ts. draft_of (record m { tags = ts })) (append_assoc m.tags tags (tag ∷ []))
+pub tagged_more : (old mid new : Draft) (tags : List Tag) (tag : Tag) → Tagged old mid tags → new ≡ with_tag_text mid tag
+    → Tagged old new (tags ++ tag ∷ [])
+tagged_more old mid new tags tag was is =
+    is ∙ ap (λ (d : Draft). with_tag_text d tag) was ∙ sym (fold-append with_tag_text old tags (tag ∷ []))
+
+-- The draft of a metric with a value, after it got tags, is that of the metric with these tags after its own.
+drafted_tags : (value : List ℕ) (m : Metric) (tags : List Tag)
+    → fold with_tag_text (draft_with value m) tags ≡ draft_with value (record m { tags = m.tags ++ tags })
+drafted_tags value m [] = ap (λ ts. draft_with value (record m { tags = ts })) (sym (append-nil m.tags))
+drafted_tags value m (t ∷ tags) =
+    ap (λ (d : Draft). fold with_tag_text d tags) (tagged_draft value m t) ∙ drafted_tags value (with_tag m t) tags
+    ∙ ap (λ ts. draft_with value (record m { tags = ts })) (append_assoc m.tags (t ∷ []) tags)
 
 module _ {Z : Type 0} (d : Defaults Z) (k n v : List ℕ) (others words : List (List ℕ)) (are : words ≡ k ∷ n ∷ v ∷ others) where
   asked : (line : List ℕ) → IsLineOfWords d words line → IsLineOfWords d (k ∷ n ∷ v ∷ others) line
@@ -185,24 +206,26 @@ module _ {Z : Type 0} (d : Defaults Z) (k n v : List ℕ) (others words : List (
 
   -- If the words of a line ask for a metric, then the first three have its kind, its name and its value, and the others
   -- its tags.
-  pub head_asked : (line : List ℕ) → IsLineOfWords d words line → (h : MetricType × List Number) × AreHead k n v h.0 h.1
+  pub head_asked : (line : List ℕ) → IsLineOfWords d words line → (h : MetricType × List ℕ) × AreHead k n v h.0 h.1
   head_asked line l =
       let h = asked line l in
-      ((h.0.kind, h.0.numbers), record { named = h.1.0; word = h.1.2; valued = h.1.3 })
+      ((h.0.kind, h.0.value), record { named = h.1.0; word = h.1.2; valued = h.1.3 })
 
   pub tags_asked : (line : List ℕ) → IsLineOfWords d words line → (tags : List Tag) × AllZip IsTagWord others tags
   tags_asked line l = let h = asked line l in (h.0.tags, h.1.4)
 
   -- The line that was written is that of the metric that the words ask for.
-  pub line_found : (kind : MetricType) (numbers : List Number) (old new : Draft) (line : List ℕ) → AreHead k n v kind numbers
-      → old ≡ draft_of (with_rate_and_time d (metric_of_call d.settings (plain_call kind n numbers))) → AddsTags others old new (Ok tt)
-      → ((m : Metric) → new ≡ draft_of m → line ≡ line_of m) → IsLineOfWords d words line
-  line_found kind numbers old new line head is (tags, each, added) from =
+  pub line_found : (kind : MetricType) (value : List ℕ) (old new : Draft) (line : List ℕ) → AreHead k n v kind value
+      → old ≡ draft_with value (with_rate_and_time d (metric_of_call d.settings (plain_call kind n []))) → AddsTags others old new (Ok tt)
+      → line ≡ draft_line new → IsLineOfWords d words line
+  line_found kind value old new line head is (tags, each, added) from =
+      let m = with_rate_and_time d (metric_of_call d.settings (plain_call kind n [])) in
+      let asked : Asked = record { kind = kind; name = n; value = value; tags = tags } in
       subst (λ ws. IsLineOfWords d ws line) (sym are) (
-        record { kind = kind; name = n; numbers = numbers; tags = tags },
+        asked,
         (head.named, refl, head.word, head.valued, each),
-        from (asked_metric d (record { kind = kind; name = n; numbers = numbers; tags = tags }))
-            (added (with_rate_and_time d (metric_of_call d.settings (plain_call kind n numbers))) is),
+        from ∙ ap draft_line (added ∙ ap (λ (f : Draft). fold with_tag_text f tags) is ∙ drafted_tags value m tags)
+            ∙ line_of_draft_with value (asked_metric d asked),
       )
 
 -- If there are no words, then they ask for no metric.

@@ -1,22 +1,21 @@
 -- The metrics that words ask for.
-use Rattle.std.specs.Prelude.{◌≡◌, ◌<◌, ◌⊎◌, ◌==◌, ⊤, ℕ, Bool, true, false, List, [], ◌∷◌, ◌++◌, codes, length, Result, Ok, Err}
-use Rattle.std.specs.Int.{w64, FitsUnsigned}
+use Rattle.std.specs.Prelude.{◌≡◌, ◌<◌, ◌⊎◌, ◌==◌, ⊤, ℕ, Bool, true, false, List, [], ◌∷◌, codes, length, Result, Ok, Err}
+use Rattle.std.specs.Int.{w64, FitsUnsigned, is_negative}
 use Rattle.std.specs.Int.RustNames.{FitsSigned}
-use Rattle.std.specs.List.{AllZip, filter, slice_split}
+use Rattle.std.specs.List.{AllZip, filter, fold, slice_split}
 use Rattle.cadence_text.specs.declared.line.MetricType.{MetricType}
 use Rattle.cadence_text.specs.declared.line.MetricType.TheVariants.{Counter, Timer, Gauge, Meter, Histogram, Set, Distribution}
-use Rattle.cadence_text.specs.Draft.{Draft, draft_of}
+use Rattle.cadence_text.specs.Draft.{Draft, with_tag_text}
 use Rattle.cadence_text.specs.Line.{kind_text, tag_text}
-use Rattle.cadence_text.specs.Metric.{Metric, Tag, with_tag}
+use Rattle.cadence_text.specs.Metric.{Tag}
 use Rattle.cadence_text.specs.OneReading.{IsClearTag, IsFreeText}
+use Rattle.cadence_text.specs.TextValue.{IsMember, change_text}
 use Rattle.cadence_words.specs.Finds.{FailsAsWord}
 use Rattle.cadence_errors.specs.declared.input_error.InputError.{InputError}
 use Rattle.cadence_words.specs.declared.word_error.Part.{Part}
 use Rattle.cadence_words.specs.Duration.{IsDurationWord}
-use Rattle.cadence_words.specs.Printed.{SaysNumber}
-use Rattle.cadence_value.specs.Number.{IsDecimal, Number}
-use Rattle.cadence_value.specs.Values.{numbers_of}
-use Rattle.cadence_value.specs.declared.value.MetricValue.{MetricValue}
+use Rattle.cadence_words.specs.Printed.{SaysDecimal, SaysNumber}
+use Rattle.cadence_value.specs.Number.{IsDecimal, Number, numbers_text}
 
 -- whether a list has an element
 abbrev pub has_some : {X : Type 0} → List X → Bool
@@ -59,14 +58,18 @@ IsSigned n = (n.places ≡ 0) × FitsSigned w64 n.mantissa
 abbrev pub IsUnsigned : Number → Type 0
 IsUnsigned n = (n.places ≡ 0) × FitsUnsigned w64 n.mantissa
 
+-- The number isn't below 0.
+abbrev pub IsFromZero : Number → Type 0
+IsFromZero n = is_negative n.mantissa ≡ false
+
 -- A metric of this kind can have this number as its value.
 abbrev pub AllowsNumber : MetricType → Number → Type 0
 AllowsNumber Counter n = IsSigned n ⊎ IsUnsigned n
-AllowsNumber Timer n = IsUnsigned n
+AllowsNumber Timer n = IsFromZero n
 AllowsNumber Gauge n = ⊤
 AllowsNumber Meter n = IsUnsigned n
 AllowsNumber Histogram n = ⊤
-AllowsNumber Set n = IsSigned n
+AllowsNumber Set n = ⊥
 AllowsNumber Distribution n = ⊤
 
 -- The word says this number, and the kind allows it.
@@ -94,21 +97,63 @@ pub record IsValueWord (kind : MetricType) (word : List ℕ) (numbers : List Num
   pub each : AllZip (IsNumberWord kind) (slice_split (λ b. b == 44) word) numbers
   pub few : AllowsSeveral kind ⊎ (length numbers ≡ 1)
 
--- The first word names the kind, the second is a name, and the third says the numbers.
-pub record AreHead (kind_word name value : List ℕ) (kind : MetricType) (numbers : List Number) : Type 0 where
+-- whether the word begins with a plus
+abbrev pub begins_with_plus : List ℕ → Bool
+begins_with_plus [] = false
+begins_with_plus (byte ∷ bytes) = byte == 43
+
+-- whether the value that the word says for a kind is a text: a member of a set, or a change of a gauge
+abbrev pub is_text_word : MetricType → List ℕ → Bool
+is_text_word Counter word = false
+is_text_word Timer word = false
+is_text_word Gauge word = begins_with_plus word
+is_text_word Meter word = false
+is_text_word Histogram word = false
+is_text_word Set word = true
+is_text_word Distribution word = false
+
+-- The word is a member of a set, and this is its text.
+abbrev pub SaysMember : List ℕ → List ℕ → Type 0
+SaysMember word text = IsMember word × (text ≡ word)
+
+-- The word says by which number a gauge changes, and this is the text of the change.
+abbrev pub SaysChange : List ℕ → List ℕ → Type 0
+SaysChange word text = (n : Number) × SaysDecimal word n × (text ≡ change_text n)
+
+-- The word says a value of a metric of this kind that is a text, and this is the text.
+abbrev pub SaysText : MetricType → List ℕ → List ℕ → Type 0
+SaysText Counter word text = ⊥
+SaysText Timer word text = ⊥
+SaysText Gauge word text = SaysChange word text
+SaysText Meter word text = ⊥
+SaysText Histogram word text = ⊥
+SaysText Set word text = SaysMember word text
+SaysText Distribution word text = ⊥
+
+-- The word says numbers that a metric of this kind can have as its value, and this is their text.
+abbrev pub SaysNumbers : MetricType → List ℕ → List ℕ → Type 0
+SaysNumbers kind word text = (numbers : List Number) × IsValueWord kind word numbers × (text ≡ numbers_text numbers)
+
+-- The word says a value of a metric of this kind: a text (`true`) or numbers.
+abbrev pub SaysValue : Bool → MetricType → List ℕ → List ℕ → Type 0
+SaysValue true kind word text = SaysText kind word text
+SaysValue false kind word text = SaysNumbers kind word text
+
+-- The word says a value of a metric of this kind, and this is the text of the value in the line.
+abbrev pub IsValueOf : MetricType → List ℕ → List ℕ → Type 0
+IsValueOf kind word text = SaysValue (is_text_word kind word) kind word text
+
+-- The first word names the kind, the second is a name, and the third says the value, whose text is this.
+pub record AreHead (kind_word name value : List ℕ) (kind : MetricType) (text : List ℕ) : Type 0 where
   pub named : NamesKind kind_word kind
   pub word : IsWord name
-  pub valued : IsValueWord kind value numbers
+  pub valued : IsValueOf kind value text
 
--- the kind and the numbers of a value
-abbrev pub head_of : {Z : Type 0} → MetricType × MetricValue Z → MetricType × List Number
-head_of (kind, value) = (kind, numbers_of value)
-
--- the parts of a metric that words ask for
+-- the parts of a metric that words ask for; the value is its text
 pub record Asked : Type 0 where
   pub kind : MetricType
   pub name : List ℕ
-  pub numbers : List Number
+  pub value : List ℕ
   pub tags : List Tag
 
 -- The words ask for these parts: a kind, a name, a value and any tags.
@@ -117,17 +162,14 @@ AskFor [] asked = ⊥
 AskFor (kind ∷ []) asked = ⊥
 AskFor (kind ∷ name ∷ []) asked = ⊥
 AskFor (kind ∷ name ∷ value ∷ tags) asked =
-    NamesKind kind asked.kind × (asked.name ≡ name) × IsWord name × IsValueWord asked.kind value asked.numbers × AllZip IsTagWord tags asked.tags
+    NamesKind kind asked.kind × (asked.name ≡ name) × IsWord name × IsValueOf asked.kind value asked.value × AllZip IsTagWord tags asked.tags
 
--- If the result is Ok, the draft of a metric became the draft of the metric with the word's tag. If it is an error, it
--- is one that `FailsAsWord` allows.
+-- If the result is Ok, the draft got the word's tag. If it is an error, it is one that `FailsAsWord` allows.
 abbrev pub AddsTag : List ℕ → Draft → Draft → Result (Unit {0}) (InputError Part) → Type 0
-AddsTag word old new (Ok done) = (tag : Tag) × IsTagWord word tag × ((m : Metric) → old ≡ draft_of m → new ≡ draft_of (with_tag m tag))
+AddsTag word old new (Ok done) = (tag : Tag) × IsTagWord word tag × (new ≡ with_tag_text old tag)
 AddsTag word old new (Err fault) = FailsAsWord (IsTagWord word) fault
 
--- If the result is Ok, the draft of a metric became the draft of the metric with the words' tags. If it is an error, it
--- is one that `FailsAsWord` allows.
+-- If the result is Ok, the draft got the words' tags. If it is an error, it is one that `FailsAsWord` allows.
 abbrev pub AddsTags : List (List ℕ) → Draft → Draft → Result (Unit {0}) (InputError Part) → Type 0
-AddsTags words old new (Ok done) =
-    (tags : List Tag) × AllZip IsTagWord words tags × ((m : Metric) → old ≡ draft_of m → new ≡ draft_of (record m { tags = m.tags ++ tags }))
+AddsTags words old new (Ok done) = (tags : List Tag) × AllZip IsTagWord words tags × (new ≡ fold with_tag_text old tags)
 AddsTags words old new (Err fault) = FailsAsWord (AllZip IsTagWord words) fault

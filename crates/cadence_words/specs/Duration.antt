@@ -4,7 +4,7 @@ use Rattle.cadence_text.specs.declared.line.MetricType.{MetricType}
 use Rattle.cadence_text.specs.declared.line.MetricType.TheVariants.{Counter, Timer, Gauge, Meter, Histogram, Set, Distribution}
 use Rattle.cadence_words.specs.declared.duration.Unit.{Unit}
 use Rattle.cadence_words.specs.declared.duration.Unit.TheVariants.{Second, Milli, Micro, Nano}
-use Rattle.cadence_value.specs.Number.{IsDecimal, Number, natural}
+use Rattle.cadence_value.specs.Number.{IsDecimal, IsLowestForm, Number, natural}
 use Rattle.cadence_value.specs.DenotedNumber.{Denotes}
 
 -- the text of a unit
@@ -38,22 +38,20 @@ pub record IsTimeWord (word : List ℕ) (nanos : ℕ) : Type 0 where
   pub text : digits ++ unit_text unit ≡ word
   pub is : IsNanos number unit nanos
 
--- A metric of this kind counts a duration of these nanoseconds as this number: a timer counts milliseconds, of which
--- there must be a whole number, and a histogram counts nanoseconds. Other kinds don't take durations.
-abbrev pub CountsNanos : MetricType → ℕ → ℕ → Type 0
-CountsNanos Counter nanos count = ⊥
-CountsNanos Timer nanos count = nanos ≡ count * 1_000_000
-CountsNanos Gauge nanos count = ⊥
-CountsNanos Meter nanos count = ⊥
-CountsNanos Histogram nanos count = count ≡ nanos
-CountsNanos Set nanos count = ⊥
-CountsNanos Distribution nanos count = ⊥
+-- A metric of this kind counts a duration of these nanoseconds as this number: a timer counts milliseconds, with up to
+-- six digits after the dot, and a histogram counts nanoseconds. What is before the dot fits 64 bits. Other kinds don't
+-- take durations.
+abbrev pub CountsNanos : MetricType → ℕ → Number → Type 0
+CountsNanos Counter nanos n = ⊥
+CountsNanos Timer nanos n = IsLowestForm (pos nanos) 6 n × (nanos < 2 ^ 64 * 1_000_000)
+CountsNanos Gauge nanos n = ⊥
+CountsNanos Meter nanos n = ⊥
+CountsNanos Histogram nanos n = (n ≡ natural nanos) × (nanos < 2 ^ 64)
+CountsNanos Set nanos n = ⊥
+CountsNanos Distribution nanos n = ⊥
 
--- The word says a duration, and this number is its count for the kind. The count fits 64 bits.
+-- The word says a duration, which a metric of this kind counts as this number.
 pub record IsDurationWord (kind : MetricType) (word : List ℕ) (n : Number) : Type 0 where
   pub nanos : ℕ
-  pub count : ℕ
   pub written : IsTimeWord word nanos
-  pub counts : CountsNanos kind nanos count
-  pub fits : count < 2 ^ 64
-  pub is : n ≡ natural count
+  pub counts : CountsNanos kind nanos n

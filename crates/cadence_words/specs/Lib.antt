@@ -4,6 +4,7 @@ pub mod Commands
 pub mod Duration
 pub mod Events
 pub mod Finds
+pub mod Heads
 pub mod Lines
 pub mod Printed
 pub mod TagWords

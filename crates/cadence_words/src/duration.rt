@@ -1,9 +1,8 @@
 //! Reads durations: a number and a unit, as in `1.25s`.
-ghost use Rattle.std.specs.Prelude.{◌≡◌, ◌≤◌, ◌<◌, ◌^◌, ◌++◌, All, IfNone, IfSome, SomeIff, slice_index};
+ghost use Rattle.std.specs.Prelude.{◌≡◌, ◌≤◌, ◌<◌, ◌^◌, ◌++◌, All, IfNone, IfSome, slice_index};
 ghost use Rattle.cadence_words.specs.Duration.{CountsNanos, IsDurationWord, IsNanos, IsTimeWord, unit_tens, unit_text};
-ghost use Rattle.cadence_text.specs.declared.line.MetricType.TheVariants.{Timer};
+ghost use Rattle.cadence_text.specs.declared.line.MetricType.TheVariants.{Histogram, Timer};
 ghost use Rattle.cadence_value.specs.Finds.{Finds};
-ghost use Rattle.cadence_value.specs.Number.{natural};
 
 use crate::decimal::read_bytes;
 use cadence_text::line::MetricType;
@@ -80,52 +79,46 @@ fn read_nanos(word: &[u8]) -> Option<u128>
     nanos_of(number, unit)
 }
 
-// Returns how many milliseconds a number of nanoseconds is, if that is a whole number.
-fn whole_millis(nanos: u128) -> Option<u128>
+// The number of nanoseconds from which the whole milliseconds don't fit 64 bits.
+const TOO_MANY_NANOS: u128 = (1 << 64) * 1_000_000;
+
+// Returns the milliseconds of a number of nanoseconds, with what is less than one as digits after the dot. Returns
+// `None` if the whole milliseconds don't fit 64 bits.
+fn millis_of(nanos: u128) -> Option<Decimal>
     ensures { Finds (CountsNanos Timer nanos) result }
 {
-    if nanos % 1_000_000 != 0 {
+    if nanos >= TOO_MANY_NANOS {
         return None;
     }
-    Some(nanos / 1_000_000)
+    Decimal::new(nanos as i128, 6).ok()
 }
 
-// Returns the value of a duration for this kind of metric: milliseconds for a timer, if there is a whole number of them,
-// and nanoseconds for a histogram. The other kinds don't take durations.
-fn count_of(kind: MetricType, nanos: u128) -> Option<u128>
+// Returns a number of nanoseconds as a decimal, if it fits 64 bits.
+fn whole_nanos(nanos: u128) -> Option<Decimal>
+    ensures { Finds (CountsNanos Histogram nanos) result }
+{
+    let fits = u64::try_from(nanos).ok()?;
+    Decimal::new(i128::from(fits), 0).ok()
+}
+
+// Returns the value of a duration for this kind of metric.
+fn value_of(kind: MetricType, nanos: u128) -> Option<Decimal>
     ensures { Finds (CountsNanos kind nanos) result }
 {
     match kind {
-        MetricType::Timer => whole_millis(nanos),
-        MetricType::Histogram => Some(nanos),
+        MetricType::Timer => millis_of(nanos),
+        MetricType::Histogram => whole_nanos(nanos),
         _ => None,
     }
 }
 
-// Returns the value if it fits 64 bits.
-fn in_64_bits(count: u128) -> Option<u64>
-    ensures { SomeIff result (count < 2 ^ 64) count }
-{
-    u64::try_from(count).ok()
-}
-
-// Returns a whole number as a decimal.
-fn whole_decimal(count: u64) -> Option<Decimal>
-    ensures { Finds (λ n. n ≡ natural count) result }
-{
-    Decimal::new(i128::from(count), 0).ok()
-}
-
-/// Returns the value that the duration in a word has for this kind of metric: whole milliseconds for a timer, and
-/// nanoseconds for a histogram. Takes no memory.
+/// Returns the value that the duration in a word has for this kind of metric: milliseconds for a timer, with what is
+/// less than one as digits after the dot, and nanoseconds for a histogram. Takes no memory.
 ///
-/// Returns `None` if the word is no duration, if the kind takes none, or if the value is not whole or does not fit 64
-/// bits.
+/// Returns `None` if the word is no duration, if the kind takes none, or if what is before the dot does not fit 64 bits.
 pub fn read_duration(kind: MetricType, word: &[u8]) -> Option<Decimal>
     ensures { Finds (IsDurationWord kind word.now) result }
 {
     let nanos = read_nanos(word)?;
-    let count = count_of(kind, nanos)?;
-    let fits = in_64_bits(count)?;
-    whole_decimal(fits)
+    value_of(kind, nanos)
 }

@@ -11,7 +11,8 @@
 //! - `parts`: splits a number into its sign, its digits and its exponent.
 //! - `printed`: reads numbers as tools print them.
 //! - `sample`: lets only a random sample of lines pass.
-//! - `value`: reads the value of a metric.
+//! - `text`: reads the value of a metric, which may be a text.
+//! - `value`: reads the numbers of a value.
 //! - `word_error`: why words can't be read.
 //! - `words`: splits a line into words, and reads single words.
 #![tactic(auto)]
@@ -26,6 +27,7 @@ mod line;
 mod parts;
 mod printed;
 mod sample;
+mod text;
 mod value;
 mod word_error;
 mod words;

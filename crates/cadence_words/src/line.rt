@@ -1,33 +1,31 @@
 //! Writes the line of a metric from the words that ask for it.
-ghost use Rattle.std.specs.Prelude.{◌≡◌, ◌∷◌, List, IfOk, None, map};
+ghost use Rattle.std.specs.Prelude.{◌≡◌, [], ◌∷◌, IfOk, None, map};
 ghost use Rattle.cadence_settings.specs.Call.{metric_of_call, plain_call};
-ghost use Rattle.cadence_words.specs.Asked.{AddsTag, AddsTags, AreHead, head_of, words_of};
+ghost use Rattle.cadence_words.specs.Asked.{AddsTag, AddsTags, AreHead, words_of};
 ghost use Rattle.cadence_words.specs.Finds.{FindsOrFails};
 ghost use Rattle.cadence_words.specs.Lines.{IsLineOfText, IsLineOfWords, with_rate_and_time};
 ghost use Rattle.cadence_words.specs.TagWords.{tag_words};
-ghost use Rattle.cadence_text.specs.Draft.{draft_of};
-ghost use Rattle.cadence_value.specs.Number.{Number};
-ghost use Rattle.cadence_value.specs.Values.{numbers_of};
+ghost use Rattle.cadence_words.specs.Heads.{head_of};
+ghost use Rattle.cadence_text.specs.Draft.{draft_with};
 
 use crate::defaults::Defaults;
-use crate::value::read_value;
+use crate::text::{Value, read_value};
 use crate::word_error::{Part, WordError};
 use crate::words::{is_word, read_kind, read_tag, split_word, utf8_text};
-use cadence_text::line::{DraftLine, MetricType};
+use cadence_settings::ClientSettings;
+use cadence_text::line::DraftLine;
 use cadence_value::decimal::Decimal;
-use cadence_value::value::MetricValue;
 use std::alloc::{AllocError, Allocator};
 use std::mem;
 
 // Reads the kind and the value, and checks the name.
-fn read_head<A: Allocator + Clone>(
+fn read_head<'a, A: Allocator + Clone>(
     alloc: &A,
     kind: &str,
     name: &str,
-    value: &str,
-) -> Result<(MetricType, MetricValue<A>), WordError>
-    ensures { FindsOrFails (λ (h : MetricType × List Number).
-        AreHead kind.now name.now value.now h.0 h.1) head_of result }
+    value: &'a str,
+) -> Result<Value<'a, A>, WordError>
+    ensures { FindsOrFails (λ h. AreHead kind.now name.now value.now h.0 h.1) head_of result }
 {
     let Some(kind) = read_kind(kind) else {
         return Err(WordError::Unusable(Part::Kind));
@@ -35,8 +33,7 @@ fn read_head<A: Allocator + Clone>(
     if !is_word(name) {
         return Err(WordError::Unusable(Part::Name));
     }
-    let value = read_value(alloc, kind, value)?;
-    Ok((kind, value))
+    read_value(alloc, kind, value)
 }
 
 // Adds the tag that a word says.
@@ -110,22 +107,44 @@ fn set_rate_and_time<A: Allocator>(
     }
 }
 
+// Returns the draft of a metric without options of its own. The draft takes the memory of the buffer. The caller tested
+// the name and the value, so an error of the settings says that memory ran out.
+fn plain_draft<'a, A: Allocator + Clone>(
+    settings: &'a ClientSettings<A>,
+    buffer: Vec<u8, A>,
+    name: &str,
+    value: Value<'_, A>,
+) -> Result<DraftLine<'a, A>, AllocError>
+    ensures { IfOk result (λ draft. draft ≡ draft_with (head_of value.entry).1
+        (metric_of_call settings.now (plain_call (head_of value.entry).0 name.now []))) }
+{
+    match value {
+        Value::Numbers(kind, numbers) => {
+            match settings.draft_in_buffer(buffer, name, kind, numbers) {
+                Ok(draft) => Ok(draft),
+                Err(_) => Err(AllocError),
+            }
+        }
+        Value::Text(text) => match settings.text_draft(buffer, name, &text) {
+            Ok(draft) => Ok(draft),
+            Err(_) => Err(AllocError),
+        },
+    }
+}
+
 // Returns the draft of a metric without tags of its own, with all that the command line adds. The draft takes the
 // memory of the buffer.
 fn draft_in_buffer<'a, A: Allocator + Clone>(
     defaults: &'a Defaults<A>,
     buffer: Vec<u8, A>,
     name: &str,
-    kind: MetricType,
-    value: MetricValue<A>,
+    value: Value<'_, A>,
 ) -> Result<DraftLine<'a, A>, AllocError>
-    ensures { IfOk result (λ draft. draft ≡ draft_of (with_rate_and_time defaults.now
-        (metric_of_call defaults.now.settings (plain_call kind name.now (numbers_of value))))) }
+    ensures { IfOk result (λ draft. draft ≡ draft_with (head_of value.entry).1
+        (with_rate_and_time defaults.now (metric_of_call defaults.now.settings
+        (plain_call (head_of value.entry).0 name.now [])))) }
 {
-    // The name has no separator, because `read_head` tested it. So an error says that memory ran out.
-    let Ok(mut draft) = defaults.settings.draft_in_buffer(buffer, name, kind, value) else {
-        return Err(AllocError);
-    };
+    let mut draft = plain_draft(&defaults.settings, buffer, name, value)?;
     set_rate_and_time(&mut draft, defaults.rate, defaults.time);
     Ok(draft)
 }
@@ -143,9 +162,12 @@ fn write_line<A: Allocator + Clone>(
     ensures { FindsOrFails (IsLineOfWords defaults.now
         (kind.now ∷ name.now ∷ value.now ∷ tag_words tags.entry)) (λ _. buffer.new.items) result }
 {
-    let (kind, value) = read_head(alloc, kind, name, value)?;
+    let value = match read_head(alloc, kind, name, value) {
+        Ok(value) => value,
+        Err(error) => return Err(error),
+    };
     let memory = mem::replace(buffer, Vec::new(alloc.clone()?));
-    let mut draft = draft_in_buffer(defaults, memory, name, kind, value)?;
+    let mut draft = draft_in_buffer(defaults, memory, name, value)?;
     tags.add_to(&mut draft)?;
     *buffer = draft.into_bytes()?;
     Ok(())

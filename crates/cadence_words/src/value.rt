@@ -1,4 +1,4 @@
-//! Reads the value of a metric.
+//! Reads the numbers of a value.
 ghost use Rattle.std.specs.Prelude.{◌≡◌, ◌↔◌, ◌≢◌, ◌∷◌, [], All, IsTrue, map};
 ghost use Rattle.std.specs.List.{AllZip};
 ghost use Rattle.cadence_words.specs.Asked.{AllowsNumber, AllowsSeveral, IsNumberWord, IsPlainWord, IsValueWord};
@@ -23,8 +23,9 @@ fn allows_number(kind: MetricType, number: Decimal) -> bool
     let is_unsigned = is_whole && u64::try_from(number.mantissa()).is_ok();
     match kind {
         MetricType::Counter => is_signed || is_unsigned,
-        MetricType::Timer | MetricType::Meter => is_unsigned,
-        MetricType::Set => is_signed,
+        MetricType::Timer => number.mantissa() >= 0,
+        MetricType::Meter => is_unsigned,
+        MetricType::Set => false,
         MetricType::Gauge | MetricType::Histogram | MetricType::Distribution => true,
     }
 }
@@ -99,8 +100,8 @@ fn single_value<A: Allocator>(number: Decimal) -> MetricValue<A>
     }
 }
 
-// Reads the value of a metric of this kind: one number or duration, or several with a comma between each two.
-pub(crate) fn read_value<A: Allocator + Clone>(
+// Reads the numbers of a metric of this kind: one number or duration, or several with a comma between each two.
+pub(crate) fn read_numbers<A: Allocator + Clone>(
     alloc: &A,
     kind: MetricType,
     word: &str,

@@ -36,14 +36,14 @@ fn wanted_value(kind: MetricType) -> &'static str {
     match kind {
         MetricType::Counter => "VALUE of c is a whole number, as in `c visits 1`",
         MetricType::Timer => {
-            "VALUE of ms is whole milliseconds, or durations of whole milliseconds, as in `ms wait 12,1.25s`"
+            "VALUE of ms is milliseconds from 0, or durations, as in `ms wait 12.5,1.25s`"
         }
-        MetricType::Gauge => "VALUE of g is a number, as in `g load 0.75`",
+        MetricType::Gauge => "VALUE of g is a number, or a change as +5, as in `g load 0.75`",
         MetricType::Meter => "VALUE of m is a whole number from 0, as in `m requests 1`",
         MetricType::Histogram => {
             "VALUE of h is numbers, or durations, which are sent in nanoseconds, as in `h size 0.75,12`"
         }
-        MetricType::Set => "VALUE of s is a whole number and no name, as in `s users 42`",
+        MetricType::Set => "VALUE of s has no colon, bar or newline, as in `s users alice`",
         MetricType::Distribution => "VALUE of d is numbers, as in `d size 0.75,12`",
     }
 }

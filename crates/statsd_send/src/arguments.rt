@@ -15,14 +15,15 @@ const USAGE: &str = "statsd_send [OPTIONS] KIND NAME VALUE [TAG ..]   sends one 
 
 const NOTES: &str =
     "KIND   c, ms, g, m, h, s, d, or count, time, gauge, meter, histogram, set, distribution
-VALUE  c, s   a whole number; a member of a set can't be a name
+VALUE  c      a whole number
+       s      a member of a set, as alice or 42
        m      a whole number from 0
-       ms     whole milliseconds, or a duration of them, as 1250ms or 1.25s
+       ms     milliseconds from 0, as 12.5, or a duration, as 1250ms or 1.25s
        g, d   a number, as 1 or 0.75
        h      a number, or a duration, which is sent in nanoseconds: 1.5ms is 1500000
        ms, h and d take several values, as 12,250, which a DogStatsD server of version 1.1 reads
        Most Statsd servers read a gauge with a minus as a decrement, DogStatsD as the value.
-       A plus is never sent: g load +3 sets the gauge to 3.
+       A gauge with a plus is a change: g load +3 adds 3, and g load 3 sets it to 3.
        Numbers, but not those of durations, may be as tools print them: .5, +1, 1e+06.
 TAG    K:V or V; behind --, and in --tag=TAG, also one that begins with a dash
 STATUS ok, warning, critical, unknown, or 0 to 3, as the status of a plugin of Nagios

@@ -151,7 +151,9 @@ impl<'a, R: Wait + Clone + Drop> Call<'a, R> {
     fn make_timer(&self) -> MetricResult<()> {
         match self.name {
             "time/u64" => self.time(number::<u64>(self.value)?),
+            "time/decimal" => self.time(number::<Decimal>(self.value)?),
             "time/duration" => self.time(duration(self.value)?),
+            "time/decimals" => self.time(numbers::<Decimal>(self.alloc, self.value)?),
             "time/u64s" => self.time(numbers::<u64>(self.alloc, self.value)?),
             "time/durations" => self.time(durations(self.alloc, self.value)?),
             _ => self.make_histogram(),

@@ -97,8 +97,8 @@ pub trait CountedExt: Counted<i64> {
 
 impl<A: Allocator + Clone, S: MetricSink, H: ErrorHandler> CountedExt for StatsdClient<A, S, H> {}
 
-/// Sends times in milliseconds. A `Duration` is cut off to whole milliseconds, and refused with the kind `InvalidInput`
-/// if they pass `u64::MAX`.
+/// Sends times in milliseconds. A `Decimal` is sent with its fraction. A `Duration` is cut off to whole milliseconds, and
+/// refused with the kind `InvalidInput` if they pass `u64::MAX`.
 pub trait Timed<T: ToTimerValue<Self::Memory>>: CallBackend {
     /// Sends a time, and returns the timer that was sent.
     fn time(&self, key: &str, value: T) -> MetricResult<Timer<Self::Memory>>

@@ -7,7 +7,8 @@ use Rattle.std.specs.List.{fold}
 use Rattle.std.specs.Option.{option_map}
 use Rattle.cadence_text.specs.declared.line.MetricType.{MetricType}
 use Rattle.cadence_value.specs.declared.value.MetricValue.{MetricValue}
-use Rattle.cadence_text.specs.Draft.{draft_of, head_text, Draft}
+use Rattle.cadence_text.specs.Draft.{draft_of, draft_with, head_text, head_with, Draft}
+use Rattle.cadence_text.specs.DraftParts.{plain_draft}
 use Rattle.std.specs.Prelude.{All, IfSome, IsUtf8, map, slice_index_or, String, string_bytes}
 use Rattle.std.proofs.lemmas.Str.{IsUtf8-string_bytes}
 use Rattle.cadence_text.specs.Owned.{tag_of_owned}
@@ -18,7 +19,7 @@ use Rattle.cadence_errors.specs.declared.MetricError.{MetricError}
 use Rattle.cadence_settings.specs.CallData.{LineFails}
 use Rattle.cadence_text.specs.Representable.{IsRepresentable, IsRepresentableTag}
 use Rattle.cadence_text.specs.Metric.{Metric, Tag}
-use Rattle.cadence_value.specs.Number.{IsDecimal, Number}
+use Rattle.cadence_value.specs.Number.{IsDecimal, Number, numbers_text}
 use Rattle.cadence_value.specs.Values.{Converts, numbers_of}
 use Rattle.cadence_settings.specs.Settings.{Settings}
 use Rattle.cadence_settings.specs.Call.{Choice, tagged, contained, timed, rated, IsDraftOf, MetricCall, plain_call, with_choice, chosen}
@@ -63,44 +64,27 @@ makes_metric-fold s kind key os (Some ns) v m n same made all =
     ∙ fold-chosen s (plain_call kind key ns) os)
 makes_metric-fold s kind key os None v m n same made all = absurd same
 
--- the draft of a call without options
-pub draft_of_plain : (s : Settings) (kind : MetricType) (key : List ℕ) (ns : List Number)
-    → record {
-      head = head_text (s.prefix ++ key) ns kind;
-      tags = tags_field s.tags;
-      rate = None;
-      container = s.container;
-      time = None;
-    } ≡ draft_of (metric_of_call s (plain_call kind key ns))
+-- the draft of a call without options that has this text as its value
+draft_of_plain : (s : Settings) (kind : MetricType) (key value : List ℕ) (ns : List Number)
+    → plain_draft (head_with (s.prefix ++ key) value kind) (tags_field s.tags) s.container
+    ≡ draft_with value (metric_of_call s (plain_call kind key ns))
 unfolding metric_of_call
-draft_of_plain s kind key ns =
-    ap (λ (ts : List Tag). record {
-      head = head_text (s.prefix ++ key) ns kind;
-      tags = tags_field ts;
-      rate = None;
-      container = s.container;
-      time = None;
-    }) (sym (append-nil s.tags))
+draft_of_plain s kind key value ns =
+    ap (λ (ts : List Tag). plain_draft (head_with (s.prefix ++ key) value kind) (tags_field ts) s.container) (sym (append-nil s.tags))
+
+-- the same, from texts that are those of the settings
+pub draft_of_value : (s : Settings) (kind : MetricType) (prefix key value tags : List ℕ) (container : Option (List ℕ)) (ns : List Number)
+    → prefix ≡ s.prefix → tags ≡ tags_field s.tags → container ≡ s.container
+    → plain_draft (head_with (prefix ++ key) value kind) tags container ≡ draft_with value (metric_of_call s (plain_call kind key ns))
+draft_of_value s kind prefix key value tags container ns p t c =
+    (λ i. plain_draft (head_with (p i ++ key) value kind) (t i) (c i)) ∙ draft_of_plain s kind key value ns
 
 -- the draft of a call without options, from texts that are those of the settings
 pub draft_of_call : (s : Settings) (kind : MetricType) (prefix key tags : List ℕ) (container : Option (List ℕ)) (ns : List Number)
     → prefix ≡ s.prefix → tags ≡ tags_field s.tags → container ≡ s.container
-    → record {
-      head = head_text (prefix ++ key) ns kind;
-      tags = tags;
-      rate = None;
-      container = container;
-      time = None;
-    } ≡ draft_of (metric_of_call s (plain_call kind key ns))
-draft_of_call s kind prefix key tags container ns p t c =
-    (λ i. record {
-      head = head_text (p i ++ key) ns kind;
-      tags = t i;
-      rate = None;
-      container = c i;
-      time = None;
-    })
-    ∙ draft_of_plain s kind key ns
+    → plain_draft (head_text (prefix ++ key) ns kind) tags container ≡ draft_of (metric_of_call s (plain_call kind key ns))
+unfolding metric_of_call
+draft_of_call s kind prefix key tags container ns p t c = draft_of_value s kind prefix key (numbers_text ns) tags container ns p t c
 
 -- a call that is kept as data has a metric, if its value converts and the settings allow it; and applying its options to the draft of the call
 -- without options gives the draft of this metric

@@ -12,18 +12,22 @@ use Rattle.std.specs.Prelude.{IfSome, IsUtf8, OnErr, OnOk, Result, Ok, Err}
 use Rattle.cadence_text.specs.DraftParts.{IsCutAt}
 use Rattle.cadence_text.specs.PieceWriters.{rotated_text}
 use Rattle.cadence_value.specs.Number.{numbers_text}
-use Rattle.cadence_text.specs.Draft.{Draft, draft_line, draft_of, head_text, lead, tags_text_with, with_tag_text}
-use Rattle.cadence_text.specs.Line.{container_field, key_text, kind_text, line_of, rate_field, tag_text, tags_field, time_field}
+use Rattle.cadence_text.specs.Draft.{Draft, draft_line, draft_of, draft_with, head_with, lead, tags_text_with, with_tag_text}
+use Rattle.cadence_text.specs.Line.{container_field, key_text, kind_text, line_of, line_with, rate_field, tag_text, tags_field, time_field}
 use Rattle.cadence_text.specs.Metric.{Metric, Tag, with_tag}
 use Rattle.cadence_text.specs.MetricInMemory.{IsTextInMemory, IsTagInMemory}
+
+-- The line of a draft with a text as its value has this value, and all else from the metric.
+pub line_of_draft_with : (value : List ℕ) (m : Metric) → draft_line (draft_with value m) ≡ line_with value m
+line_of_draft_with value m =
+    let rest = rate_field m.rate ++ (tags_field m.tags ++ (container_field m.container ++ time_field m.time)) in
+    append_assoc m.name (58 ∷ (value ++ (124 ∷ kind_text m.kind))) rest
+    ∙ ap (λ t. m.name ++ (58 ∷ t)) (append_assoc value (124 ∷ kind_text m.kind) rest)
 
 -- The line of a metric's draft is the metric's line.
 pub line_of_draft : (m : Metric) → draft_line (draft_of m) ≡ line_of m
 unfolding line_of
-line_of_draft m =
-    let rest = rate_field m.rate ++ (tags_field m.tags ++ (container_field m.container ++ time_field m.time)) in
-    append_assoc m.name (58 ∷ (numbers_text m.numbers ++ (124 ∷ kind_text m.kind))) rest
-    ∙ ap (λ t. m.name ++ (58 ∷ t)) (append_assoc (numbers_text m.numbers) (124 ∷ kind_text m.kind) rest)
+line_of_draft m = line_of_draft_with (numbers_text m.numbers) m
 
 -- The field of tags with one more tag at its end.
 pub added_tag : (tags : List Tag) (t : Tag) → tags_text_with (tags_field tags) t ≡ tags_field (tags ++ t ∷ [])
@@ -34,10 +38,13 @@ added_tag (x ∷ tags) t =
     flat_map-append comma tags (t ∷ []) ∙ ap (λ rest. flat_map comma tags ++ (44 ∷ rest)) (append-nil (tag_text t)) in
     ap (λ rest. 124 ∷ 35 ∷ rest) (append_assoc (tag_text x) (flat_map comma tags) (44 ∷ tag_text t) ∙ ap (λ rest. tag_text x ++ rest) (sym last))
 
-pub draft_with_tag : (m : Metric) (t : Tag) → with_tag_text (draft_of m) t ≡ draft_of (with_tag m t)
-draft_with_tag m t =
-    ap (λ tags. record { head = head_text m.name m.numbers m.kind; tags = tags; rate = m.rate; container = m.container; time = m.time })
+pub tagged_draft : (value : List ℕ) (m : Metric) (t : Tag) → with_tag_text (draft_with value m) t ≡ draft_with value (with_tag m t)
+tagged_draft value m t =
+    ap (λ tags. record { head = head_with m.name value m.kind; tags = tags; rate = m.rate; container = m.container; time = m.time })
     (added_tag m.tags t)
+
+pub draft_with_tag : (m : Metric) (t : Tag) → with_tag_text (draft_of m) t ≡ draft_of (with_tag m t)
+draft_with_tag m t = tagged_draft (numbers_text m.numbers) m t
 
 -- If a draft is that of a metric, the draft with one more tag is that of the metric with this tag.
 pub tag_of_metric : (old new : Draft) (t : Tag) → new ≡ with_tag_text old t → (m : Metric) → old ≡ draft_of m → new ≡ draft_of (with_tag m t)

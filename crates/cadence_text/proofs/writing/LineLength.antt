@@ -1,7 +1,8 @@
 -- The line of a record has fewer than 2 ^ 126 bytes, and a metric that could be in memory can be represented.
 use Rattle.std.proofs.Common.{ℕ, zero, suc, ◌+◌, ◌*◌, ◌/◌, ◌^◌, ◌<◌, ◌≤◌, ℤ, pos, negsuc, List, [], ◌∷◌, ◌++◌, length, Option, Some, None}
 use Rattle.std.proofs.Common.{ap, arith, unsigned_abs, lit<}
-use Rattle.std.specs.Prelude.{IfSome}
+use Rattle.std.specs.Int.{is_negative}
+use Rattle.std.specs.Prelude.{Bool, true, false, codes, if◌then◌else◌, IfSome}
 use Rattle.std.specs.List.{AllByRecursion, flat_map}
 use Rattle.std.specs.Str.{IsUtf8}
 use Rattle.std.proofs.lemmas.List.{length-append}
@@ -11,7 +12,8 @@ use Rattle.std.proofs.Math.Nat.{div-le_self}
 use Rattle.cadence_text.specs.declared.line.MetricType.{MetricType}
 use Rattle.cadence_text.specs.declared.line.MetricType.TheVariants.{Counter, Timer, Gauge, Meter, Histogram, Set, Distribution}
 use Rattle.cadence_value.specs.Number.{Number, decimal_text, number_text, places_text, joined_texts, numbers_text, IsDecimal}
-use Rattle.cadence_text.specs.Draft.{head_text}
+use Rattle.cadence_text.specs.Draft.{head_text, head_with}
+use Rattle.cadence_text.specs.TextValue.{change_text}
 use Rattle.cadence_text.specs.Metric.{Metric, Tag}
 use Rattle.cadence_text.specs.Line.{kind_text, rate_field, key_text, tag_text, tags_field, container_field, time_field, line_of}
 use Rattle.cadence_text.specs.MetricInMemory.{IsTagInMemory, IsMetricInMemory, IsTimestamp, IsTextInMemory, AreNumbersInMemory, AreTagsInMemory}
@@ -108,22 +110,40 @@ kind_short Histogram = omega arith
 kind_short Set = omega arith
 kind_short Distribution = omega arith
 
-pub head_is_short : (prefix key : List ℕ) (ns : List Number) (k : MetricType) → IsTextInMemory prefix → IsTextInMemory key → AreNumbersInMemory ns
-    → length (head_text (prefix ++ key) ns k) < 2 ^ 100
-head_is_short prefix key ns k hp hk hn =
+pub head_with_short : (prefix key value : List ℕ) (k : MetricType) → IsTextInMemory prefix → IsTextInMemory key → length value < 2 ^ 99
+    → length (head_with (prefix ++ key) value k) < 2 ^ 100
+head_with_short prefix key value k hp hk short =
     omega (
       arith,
       hp.0,
       hk.0,
-      numbers_short ns hn,
+      short,
       kind_short k,
       length-append prefix key,
-      length-append (prefix ++ key) (58 ∷ (numbers_text ns ++ (124 ∷ kind_text k))),
-      length-append (numbers_text ns) (124 ∷ kind_text k),
+      length-append (prefix ++ key) (58 ∷ (value ++ (124 ∷ kind_text k))),
+      length-append value (124 ∷ kind_text k),
     )
 
-pub head_is_some : (name : List ℕ) (ns : List Number) (k : MetricType) → 0 < length (head_text name ns k)
-head_is_some name ns k = omega (arith, length-append name (58 ∷ (numbers_text ns ++ (124 ∷ kind_text k))))
+pub head_is_short : (prefix key : List ℕ) (ns : List Number) (k : MetricType) → IsTextInMemory prefix → IsTextInMemory key → AreNumbersInMemory ns
+    → length (head_text (prefix ++ key) ns k) < 2 ^ 100
+head_is_short prefix key ns k hp hk hn = head_with_short prefix key (numbers_text ns) k hp hk (omega (arith, numbers_short ns hn))
+
+pub head_with_some : (name value : List ℕ) (k : MetricType) → 0 < length (head_with name value k)
+head_with_some name value k = omega (arith, length-append name (58 ∷ (value ++ (124 ∷ kind_text k))))
+
+-- A change of a gauge has at most 72 bytes.
+plus_short : (below : Bool) → length (if below then [] else codes "+") ≤ 1
+plus_short true = omega arith
+plus_short false = omega arith
+
+pub change_short : (n : Number) → IsDecimal n → length (change_text n) < 2 ^ 63
+change_short n h =
+    omega (
+      arith,
+      number_short n h,
+      plus_short (is_negative n.mantissa),
+      length-append (if is_negative n.mantissa then [] else codes "+") (number_text n),
+    )
 
 pub line_is_short : (m : Metric) → IsMetricInMemory m → length (line_of m) < 2 ^ 126
 unfolding line_of

@@ -1,8 +1,8 @@
 -- The texts that the writers of a line end with. The writers are the counter of bytes and the line buffer.
 use Rattle.std.proofs.Common.{◌≡◌, ℕ, ◌+◌, ◌%◌, ◌^◌, ◌<◌, ◌≤◌, Bool, true, false, ltb, List, [], ◌∷◌, ◌++◌, subst, length, replicate, sym}
-use Rattle.std.proofs.Common.{ap, ◌∙◌, arith}
+use Rattle.std.proofs.Common.{ap, ◌∙◌, arith, refl}
 use Rattle.std.proofs.lemmas.List.{append-nil, length-append, length-replicate}
-use Rattle.std.proofs.lemmas.Bool.{cond-false, le-ltb}
+use Rattle.std.proofs.lemmas.Bool.{cond-false, le-ltb, ltb-false}
 use Rattle.std.specs.Prelude.{if◌then◌else◌, IsUtf8}
 use Rattle.std.proofs.lemmas.Str.{IsUtf8-append, IsUtf8-from_ascii, IsUtf8-had}
 use Rattle.std.proofs.lemmas.Str.Ascii.{IsAscii-cons, IsAscii-nil}
@@ -44,6 +44,23 @@ filled_more before after old was new more some fits same e =
     filled_all before after new (was ++ (more ++ [])) (old ++ more) (omega (arith, some, length-append old more))
     (omega (arith, fits, length-append old more)) (ap (λ o. o ++ (more ++ [])) same
     ∙ ap (λ m. old ++ m) (append-nil more)) e
+
+-- If a line buffer took a text, and has room for what comes next, then that fits after the text.
+fits_in : (longer : Bool) (after : ℕ) (held text : List ℕ) → ltb after (length held) ≡ longer → 0 < length text
+    → (if longer then [] else held) ≡ text → length held ≤ after
+fits_in true after held text is some e = absurd (omega (arith, ap (λ t. length t) e, some))
+fits_in false after held text is some e = ltb-false after (length held) is
+
+pub room_left : (before after : ℕ) (new text more : List ℕ) → 0 < length text → length text + length more ≤ before
+    → text_up_to after (new ++ (more ++ [])) ≡ text_up_to before (text ++ (more ++ [])) → length new + length more ≤ after
+room_left before after new text more some fits e =
+    let whole = text ++ (more ++ []) in
+    let size : length whole ≡ length text + length more = omega (arith, length-append text (more ++ []), length-append more []) in
+    let within : text_up_to before whole ≡ whole =
+    cond-false (ltb before (length whole)) [] whole (le-ltb before (length whole) (omega (arith, size, fits))) in
+    let left : length (new ++ (more ++ [])) ≤ after =
+    fits_in (ltb after (length (new ++ (more ++ [])))) after (new ++ (more ++ [])) whole refl (omega (arith, size, some)) (e ∙ within) in
+    omega (arith, left, length-append new (more ++ []), length-append more [])
 
 -- A text in UTF-8 stays in UTF-8 with more such text, or with one more ASCII byte.
 pub utf8_more : (old more new : List ℕ) → ∥ IsUtf8 old ∥₁ → IsUtf8 more → new ≡ old ++ more → ∥ IsUtf8 new ∥₁

@@ -5,11 +5,13 @@
 //!
 //! A clause `representable` is a fact about the arguments, for proofs: they are texts in UTF-8 and
 //! numbers in range.
+mod text;
+
 ghost use Rattle.std.specs.Prelude.{◌≡◌, ◌+◌, ◌++◌, ◌<◌, ◌≤◌, [], IfOk, OnErr, OnOk, length};
 ghost use Rattle.std.specs.Prelude.{◌^◌, IfSome, IsUtf8, string_bytes};
 ghost use Rattle.std.specs.Option.{option_copied};
 ghost use Rattle.cadence_text.specs.Draft.{draft_line, draft_of, lead, tags_text_with, with_tag_text};
-ghost use Rattle.cadence_text.specs.DraftParts.{IsCutAt, IsRepresentableHead, draft_of_head, text_of_head};
+ghost use Rattle.cadence_text.specs.DraftParts.{IsCutAt, IsRepresentableHead, draft_of_head, plain_draft, text_of_head};
 ghost use Rattle.cadence_text.specs.Line.{container_field, line_of, tag_text, time_field};
 ghost use Rattle.cadence_text.specs.Metric.{Metric, with_tag};
 ghost use Rattle.cadence_text.specs.Record.{tag_of};
@@ -29,6 +31,7 @@ use cadence_value::text::{PieceWriter, push_value};
 use cadence_value::value::MetricValue;
 use std::alloc::{AllocError, Allocator, Global};
 use std::marker::Model;
+pub use text::{TextValue, is_member};
 
 /// The head of a line: the name, the numbers and the kind. The Rust crate has no such type.
 #[derive(Drop)]
@@ -188,6 +191,25 @@ fn written<'a, A: Allocator, B: Allocator>(
 {
     let mut line = line;
     push_head(&mut line, head);
+    with_tags(line, first, tags, container)
+}
+
+// Writes the text of tags after a head of `first` bytes, and returns the draft of them. It is inlined into `written`,
+// which has the hint.
+#[inline(always)]
+fn with_tags<'a, A: Allocator>(
+    line: LineBuf<A>,
+    first: usize,
+    tags: &str,
+    container: Option<&'a str>,
+) -> DraftLine<'a, A>
+    requires first { first ≡ length line.bytes.items }
+    requires some { 0 < first }
+    requires room { first + length tags.now ≤ line.end }
+    ensures { result ≡
+        plain_draft line.bytes.items tags.now (option_copied container.entry) }
+{
+    let mut line = line;
     line.take_piece(tags);
     DraftLine {
         line,
@@ -198,18 +220,14 @@ fn written<'a, A: Allocator, B: Allocator>(
     }
 }
 
-// Returns the length of a head, and the length of the head with the text of tags and `more` bytes.
+// Returns the length of a head, which is `count`, and the length of the head with the text of tags and `more` bytes.
 // Without this hint a call of `bench count` takes 46 instructions more.
 #[inline(always)]
-fn room_for<B: Allocator>(
-    head: &Head<'_, B>,
-    tags: &str,
-    more: usize,
-) -> Result<(usize, usize), AllocError>
-    ensures head { IfOk result (λ r. r.0 ≡ length (text_of_head head.now)) }
+fn room_for(count: u128, tags: &str, more: usize) -> Result<(usize, usize), AllocError>
+    ensures head { IfOk result (λ r. r.0 ≡ count) }
     ensures room { IfOk result (λ r. r.0 + length tags.now ≤ r.1) }
 {
-    let Ok(first) = usize::try_from(head_count(head)) else {
+    let Ok(first) = usize::try_from(count) else {
         return Err(AllocError);
     };
     let Some(length) = first.checked_add(tags.len()) else {
@@ -236,7 +254,7 @@ impl<'a, A: Allocator> DraftLine<'a, A> {
             draft ≡ draft_of_head head.now tags.now (option_copied container.entry)) }
         ensures representable { OnOk result (IsRepresentableHead head.now) }
     {
-        let (first, room) = room_for(head, tags, more)?;
+        let (first, room) = room_for(head_count(head), tags, more)?;
         let line = LineBuf::with_room(alloc, room)?;
         Ok(written(line, first, head, tags, container))
     }
@@ -254,7 +272,7 @@ impl<'a, A: Allocator> DraftLine<'a, A> {
             draft ≡ draft_of_head head.now tags.now (option_copied container.entry)) }
         ensures representable { OnOk result (IsRepresentableHead head.now) }
     {
-        let (first, room) = room_for(head, tags, more)?;
+        let (first, room) = room_for(head_count(head), tags, more)?;
         let line = LineBuf::in_buffer(buffer, room)?;
         Ok(written(line, first, head, tags, container))
     }

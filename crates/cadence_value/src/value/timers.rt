@@ -4,12 +4,13 @@ ghost use Rattle.cadence_value.specs.Number.{Number, natural};
 ghost use Rattle.cadence_value.specs.Values.{Converts, ConvertsInPlace, millis_of, numbers_in_u64};
 
 use super::durations::{TimeUnit, number_in, numbers_in};
+use crate::decimal::Decimal;
 use crate::value::MetricValue;
 use cadence_errors::MetricResult;
 use std::alloc::Allocator;
 use std::time::Duration;
 
-/// A type whose values a timer accepts: `u64`, `Duration`, and lists of these.
+/// A type whose values a timer accepts: `u64`, `Decimal`, `Duration`, and lists of these.
 ///
 /// You can implement it for a type of your own. The ghost member `numbers` states which numbers a value has, or that
 /// the value is refused. `MetricType` in `cadence_text` explains what a timer is.
@@ -42,6 +43,27 @@ impl<A: Allocator> ToTimerValue<A> for Vec<u64, A> {
         ensures in_place { ConvertsInPlace (Some (map natural self.items)) result }
     {
         Ok(MetricValue::PackedUnsigned(self))
+    }
+}
+
+/// Milliseconds with a fraction, which is sent as it is: `Decimal::new(125, 1)?` as `12.5`.
+impl<A: Allocator> ToTimerValue<A> for Decimal {
+    ghost numbers = { λ d. Some (d ∷ []) };
+
+    fn try_to_value(self) -> MetricResult<MetricValue<A>>
+        ensures in_place { ConvertsInPlace (Some (self ∷ [])) result }
+    {
+        Ok(MetricValue::Decimal(self))
+    }
+}
+
+impl<A: Allocator> ToTimerValue<A> for Vec<Decimal, A> {
+    ghost numbers = { λ v. Some v.items };
+
+    fn try_to_value(self) -> MetricResult<MetricValue<A>>
+        ensures in_place { ConvertsInPlace (Some self.items) result }
+    {
+        Ok(MetricValue::PackedDecimal(self))
     }
 }
 

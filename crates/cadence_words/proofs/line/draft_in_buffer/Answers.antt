@@ -5,11 +5,11 @@ use Rattle.cadence_text.specs.Draft.{Draft}
 
 pub set_rate_and_time-requires : goal.set_rate_and_time-requires
 set_rate_and_time-requires g c = (
-  ap (λ (d : Draft). d.rate) c.in-Ok.ensures.draft ∙ plain_rate _ _ _ _,
-  ap (λ (d : Draft). d.time) c.in-Ok.ensures.draft ∙ plain_time _ _ _ _,
+  ap (λ (d : Draft). d.rate) c.in_ok-draft.ensures ∙ plain_rate _ _ _ _,
+  ap (λ (d : Draft). d.time) c.in_ok-draft.ensures ∙ plain_time _ _ _ _,
 )
 
 pub returns : goal.returns
 returns g c =
     c.set_rate_and_time.ensures
-    ∙ ap (λ (d : Draft). record d { rate = c.args.defaults.now.rate; time = c.args.defaults.now.time }) c.in-Ok.ensures.draft
+    ∙ ap (λ (d : Draft). record d { rate = c.args.defaults.now.rate; time = c.args.defaults.now.time }) c.in_ok-draft.ensures

@@ -3,8 +3,8 @@ use Rattle.std.specs.List.{AllZip}
 use Rattle.cadence_words.specs.Asked.{IsNumberWord, IsValueWord, AllowsSeveral}
 use Rattle.cadence_value.specs.Values.{numbers_of}
 use Rattle.cadence_words.proofs.WordByWord.{hands_on, items_found, single_found, single_none, texts, too_many}
-use Rattle.cadence_words.proofs.value.read_value.Goals as goal
-use Rattle.cadence_words.proofs.value.read_value.Goals.{else-len-ne1-via-then-len-ne1+else-not-allows_several, else-len-ne1-via-else-len-ne1}
+use Rattle.cadence_words.proofs.value.read_numbers.Goals as goal
+use Rattle.cadence_words.proofs.value.read_numbers.Goals.{else-len-ne1-via-then-len-ne1+else-not-allows_several, else-len-ne1-via-else-len-ne1}
 
 pub returns-in-Some : goal.returns-in-Some
 returns-in-Some g c =
