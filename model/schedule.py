@@ -6,12 +6,8 @@ from collections import OrderedDict
 MOST_BYTES = 512  # of a line that an aggregator holds
 STEPS = ('call', 'take', 'hand', 'flush', 'stop')
 UNUSABLE = 2, b'', b'statsd_schedule: settings: separator in a text\n'
-NUMBER = r'(?:0|-?[1-9]\d*|-?(?:0|[1-9]\d*)\.\d*[1-9])'
-PLAIN = r'[^:,|\n]*'
-TAG = rf'{PLAIN}(?::{PLAIN})?'
-LINE = re.compile(rf'(?P<name>{PLAIN}):(?P<values>(?:{NUMBER}(?::{NUMBER})*)?)'
-                  rf'(?P<rest>\|(?P<kind>c|ms|g|m|h|s|d)(?:\|@{NUMBER})?(?:\|#{TAG}(?:,{TAG})*)?(?:\|c:{PLAIN})?'
-                  rf'(?P<time>\|T(?:0|[1-9]\d*))?)', re.A)
+NUMBER = re.compile(r'[+-]?(?:\d+\.?\d*|\.\d+)(?:[eE][+-]?\d+)?', re.A)
+LINE = re.compile(r'(?P<name>[^:|\n]*):(?P<values>[^|\n]*)(?P<rest>\|(?P<kind>c|ms|g|m|h|s|d)(?P<fields>(?:\|[^\n]*)?))')
 
 
 class Refused(Exception):
@@ -104,7 +100,7 @@ class Aggregator:
 
     def add(self, line):
         said = LINE.fullmatch(line)
-        if said is None or not is_read(said) or said['time'] or said['kind'] in ('ms', 'm', 'h', 'd'):
+        if said is None or not is_added(said):
             self.seen.add('other')
             if '|g' in line and self.gauges and self.fault != 'a line that may set a gauge overtakes those that are held':
                 self.seen.add('unclear')
@@ -113,8 +109,8 @@ class Aggregator:
             return
         is_long = len(line.encode()) > MOST_BYTES
         key = said['name'], said['rest']
-        if said['kind'] == 'c' and not is_long and re.fullmatch(r'-?\d+', said['values']) and -2 ** 63 <= int(said['values']) < 2 ** 63:
-            self.add_counter(said['name'], int(said['values']), said['rest'])
+        if said['kind'] == 'c' and not is_long:
+            self.add_counter(said['name'], whole_number(said['values']), said['rest'])
         elif said['kind'] == 's' and not is_long:
             if line not in self.members:
                 self.hold(self.members, line, None, line)
@@ -164,13 +160,38 @@ FAULTS = (
 )
 
 
-def is_read(said):
-    """Returns whether the numbers of a line are within the limits: 128 bits and 30 places, and 64 bits of a time."""
-    fits = lambda number: -2 ** 127 <= int(number.replace('.', '')) < 2 ** 127 and len(number.partition('.')[2]) <= 30
-    rate = re.match(r'\|[a-z]+\|@([^|]*)', said['rest'])
-    time = said['time']
-    return all(fits(number) for number in said['values'].split(':') if number) and (not rate or fits(rate[1])) and (
-        not time or int(time[2:]) < 2 ** 64)
+def number(text):
+    """Returns the mantissa and the places of the number that a text says, in any spelling, if 128 bits and 30 places hold it."""
+    if not NUMBER.fullmatch(text):
+        return None
+    front, _, exponent = text.lower().partition('e')
+    whole, _, fraction = front.partition('.')
+    digits = (whole.lstrip('+-') + fraction).rstrip('0')
+    places = len(fraction) - int(exponent or 0) - len(whole.lstrip('+-') + fraction) + len(digits)
+    if not -2 ** 31 <= int(exponent or 0) < 2 ** 31:
+        return None
+    if not digits.strip('0'):
+        return 0, 0
+    if places < -38:
+        return None
+    mantissa = int(digits) * 10 ** max(-places, 0) * (-1 if front.startswith('-') else 1)
+    return (mantissa, max(places, 0)) if -2 ** 127 <= mantissa < 2 ** 127 and places <= 30 else None
+
+
+def whole_number(text):
+    """Returns the whole number of 64 bits that a text says, if it says one."""
+    mantissa, places = number(text) or (0, 1)
+    return mantissa if places == 0 and -2 ** 63 <= mantissa < 2 ** 63 else None
+
+
+def is_added(said):
+    """Returns whether a line is that of a counter, a gauge or a set that is added to others. One with a time is not, and
+    neither is one whose name begins as that of an event."""
+    if '|T' in said['fields'] or said['name'].startswith('_e{') and ',' in said['name']:
+        return False
+    if said['kind'] == 'c':
+        return whole_number(said['values']) is not None
+    return said['kind'] == 's' or said['kind'] == 'g' and all(map(number, said['values'].split(':')))
 
 
 def text_of(word):

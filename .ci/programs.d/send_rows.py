@@ -119,6 +119,8 @@ SEND_CASES = [
      report_line(b'longer.name:1|c') + report_line(b'a:4|c\nb:2|c\n'), error_lines(b'line 3: ' + WANTS_WORDS, b'1 of 5 lines: cannot read')),
     ('a decrement between added gauges', ['--print', '--aggregate'], {}, b'g load 1\nc a 1\ng load 5\ng load -3\ng load 2\nc a 1', 0,
      report_line(b'load:5|g\nload:-3|g\na:2|c\nload:2|g\n'), b''),
+    ('added lines with colons in the text of a tag', ['--print', '--aggregate'], {'DD_TAGS': 'image:nginx:1.25'}, b'c a 1\nc a 2\n', 0,
+     report_line(b'a:3|c|#image:nginx:1.25\n'), b''),
     ('lines with a time, which are not added up', ['--print', '--aggregate', '--time', '7'], {}, b'c a 1\nc a 1', 0,
      report_line(b'a:1|c|T7\na:1|c|T7\n'), b''),
     ('lines', ['--print'], {}, b'c visits 1 page:home\nms wait 12,1.25s', 0,

@@ -68,7 +68,7 @@ static void lines(void) {
 static void gauges(void) {
     cadence_handle handle = opened(256);
     cadence_sums sums = summing(8, 64, false);
-    static const char *const later[] = { "g:-1|g", "g:+1|g", "g:8.50|g", "g:2|g|T7", "g:x|g" };
+    static const char *const later[] = { "g:-1|g", "g:+1|g", "g:8,5|g", "g:2|g|T7", "g:x|g" };
     add(&sums, &handle, "a:1|c");
     for (size_t i = 0; i < sizeof later / sizeof later[0]; i++) {
         char expected[64];

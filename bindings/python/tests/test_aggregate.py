@@ -50,8 +50,17 @@ class Sums(ClientTest):
             client.gauge("h", 9)
             client.raw(f"h:{text}|g")
         client.flush()
-        expected = ["g:0|g", "g:-2|g", "h:1|g", "h:+3|g", "h:-4|g", "g:1|g", "h:2|g", "h:7|g|T8", "h:9|g", "h:8.50|g", "h:9|g", "h:x|g"]
+        expected = ["g:0|g", "g:-2|g", "h:1|g", "h:+3|g", "h:-4|g", "g:1|g", "h:2|g", "h:7|g|T8", "h:9|g", "h:x|g"]
         self.assertEqual(self.receiver.lines(), [*expected, "hits:1|c"])
+
+    def test_the_lines_of_other_clients_are_added_up(self):
+        client = self.client(aggregate=True, tags={"image": "nginx:1.25"})
+        for number in (1, 2):
+            client.incr("hits", number)
+        for line in ("a:+1|c", "a:1e2|c", "u:alice|s|#k:v:w", "u:alice|s|#k:v:w", "x:1|c|e:it|@.5", "x:2|c|e:it|@.5"):
+            client.raw(line)
+        client.flush()
+        self.assertEqual(self.receiver.lines(), ["hits:3|c|#image:nginx:1.25", "a:101|c", "x:3|c|e:it|@.5", "u:alice|s|#k:v:w"])
 
     def test_a_float_and_a_number_past_63_bits(self):
         client = self.client(aggregate=True)

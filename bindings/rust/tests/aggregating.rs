@@ -59,7 +59,7 @@ fn the_builder_sets_how_much_is_held() {
 fn a_line_that_may_set_a_gauge_comes_after_those_that_are_held() {
     let (receiver, spy) = SpyMetricSink::new();
     let sink = AggregatingMetricSink::from(spy).unwrap();
-    for line in ["g0:-1|g", "g0:+1|g", "g0:8.50|g", "g0:2|g|T7", "g0:x|g"] {
+    for line in ["g0:-1|g", "g0:+1|g", "g0:8,5|g", "g0:2|g|T7", "g0:x|g"] {
         for n in 0..100 {
             sink.emit(&format!("g{n}:1|g")).unwrap();
         }

@@ -1,5 +1,5 @@
 -- Calls that make no line, and what their line would say.
-use Rattle.std.proofs.Common.{◌≡◌, ◌<◌, ◌≤◌, ◌^◌, ◌+◌, ℕ, ℤ, List, [], ◌∷◌, ◌++◌, length, length-append, arith, refl, sym, ap, ap₂, subst, ◌∙◌}
+use Rattle.std.proofs.Common.{◌≡◌, ◌≢◌, ◌<◌, ◌≤◌, ◌^◌, ◌+◌, ℕ, ℤ, List, [], ◌∷◌, ◌++◌, length, length-append, arith, refl, sym, ap, subst, ◌∙◌}
 use Rattle.std.specs.Prelude.{All, string_bytes}
 use Rattle.std.specs.Int.RustNames.{FitsSigned}
 use Rattle.std.proofs.Math.Logic.{∥∥₁_map}
@@ -10,37 +10,34 @@ use Rattle.cadence_aggregate.specs.Server.{amount, level}
 use Rattle.cadence_aggregate.specs.declared.line.Line.{Line}
 use Rattle.cadence_aggregate.specs.declared.line.Line.TheVariants.{Amount, Level, Member, Timing, Unclear, Other}
 use Rattle.cadence_text.specs.declared.line.MetricType.TheVariants.{Counter, Gauge}
-use Rattle.cadence_text.specs.Line.{line_of}
+use Rattle.cadence_text.proofs.grammar.LineText.{number_lacks}
+use Rattle.cadence_value.proofs.spelling.OwnText.{own_text}
 use Rattle.cadence_value.specs.Number.{Number, IsDecimal, natural, number_text, whole}
 use Rattle.cadence_aggregating.specs.Accepted.{line_of_entry, lines_of_entries}
 use Rattle.cadence_aggregating.specs.declared.accepted.Accepted.{Accepted}
-use Rattle.cadence_aggregating.specs.Contexts.{IsContextOf}
 use Rattle.cadence_aggregating.specs.Keys.{line_of_counter, line_of_gauge}
 use Rattle.cadence_aggregating.specs.Printed.{before_bar, from_bar, spliced, line_saying}
-use Rattle.cadence_aggregating.specs.Says.{LineSays}
+use Rattle.cadence_aggregating.specs.Says.{IsContext, LineSays}
 use Rattle.cadence_aggregating.specs.ToHold.{IsToHold}
 use Rattle.cadence_aggregating.specs.declared.keys.CounterKey.{CounterKey}
 use Rattle.cadence_aggregating.specs.declared.keys.GaugeKey.{GaugeKey}
 use Rattle.cadence_aggregating.specs.declared.limits.Limits.{Limits}
 use Rattle.cadence_aggregating.proofs.Spliced.{cut_whole}
-use Rattle.cadence_aggregating.proofs.Sayable.{numbered, numbered_line, numbered_listed, one_number, whole_is_decimal}
+use Rattle.cadence_aggregating.proofs.Sayable.{whole_is_decimal}
+use Rattle.cadence_aggregating.proofs.Values.{number_only}
 
 -- the line that raises the counter of a context says just this
-counted : (c : List ℕ) (n : ℤ) → FitsSigned w64 n → IsContextOf Counter c → LineSays (line_saying (amount c n)) (amount c n)
-counted c n fits (m, listed, kind, time, context) =
-    let ns = whole n ∷ [] in
-    let good : All IsDecimal ns = All-from_recursion IsDecimal ns (whole_is_decimal n fits, tt) in
-    let text : line_of (numbered m ns) ≡ spliced c (number_text (whole n)) =
-    numbered_line m listed ns ∙ ap₂ spliced (sym context) (one_number (whole n)) in
-    (numbered m ns, numbered_listed m listed ns good, text, (kind, time, context, refl, fits))
+counted : (c : List ℕ) (n : ℤ) → FitsSigned w64 n → IsContext Counter c → LineSays (line_saying (amount c n)) (amount c n)
+counted c n fits context =
+    let text = number_text (whole n) in
+    (context, fits, (text, refl, own_text text (whole n) (whole_is_decimal n fits) refl))
 
 -- the line that sets the gauge of a context says just this
-leveled : (c : List ℕ) (n : Number) → IsDecimal n → IsContextOf Gauge c → LineSays (line_saying (level c (number_text n))) (level c (number_text n))
-leveled c n fits (m, listed, kind, time, context) =
-    let ns = n ∷ [] in
-    let good : All IsDecimal ns = All-from_recursion IsDecimal ns (fits, tt) in
-    let text : line_of (numbered m ns) ≡ spliced c (number_text n) = numbered_line m listed ns ∙ ap₂ spliced (sym context) (one_number n) in
-    (numbered m ns, numbered_listed m listed ns good, text, (kind, time, context, sym (one_number n)))
+leveled : (c : List ℕ) (n : Number) → IsDecimal n → IsContext Gauge c → LineSays (line_saying (level c (number_text n))) (level c (number_text n))
+leveled c n good context =
+    let text = number_text n in
+    let plain : All (λ b. b ≢ 58) text = All-from_recursion (λ b. b ≢ 58) text (number_lacks n) in
+    (context, refl, number_only text plain (n, (good, own_text text n good refl)))
 
 -- a whole number of 64 bits is one that a decimal can have
 natural_is_decimal : (n : ℕ) → n < 2 ^ 64 → IsDecimal (natural n)

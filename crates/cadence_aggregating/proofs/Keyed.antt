@@ -1,31 +1,43 @@
 -- The context of a key, which is that of the lines of its calls.
-use Rattle.std.proofs.Common.{◌≡◌, ◌⊎◌, inl, inr, ℤ, pos, List, [], ◌∷◌, Option, Some, None, Bool, true, false, map, refl, sym, ap, ap₂, subst, ◌∙◌, rules}
-use Rattle.std.specs.Prelude.{ℕ, IfSome, IsTrue, if◌then◌else◌, not, ◌||◌}
+use Rattle.std.proofs.Common.{◌≡◌, ◌≢◌, ◌⊎◌, inl, inr, pos, List, [], ◌∷◌, Option, Some, None, Bool, true, false, map, refl, sym, ap, subst, ◌∙◌, rules, append-nil}
+use Rattle.std.specs.Prelude.{ℕ, All, IfSome, IsTrue, if◌then◌else◌, not, ◌||◌}
 use Rattle.std.specs.Int.RustNames.{FitsSigned}
 use Rattle.std.specs.Option.{option_map}
+use Rattle.std.proofs.lemmas.List.Elements.{All-from_recursion, recursion_from_All}
 use mir.Syntax.{w64}
 use Rattle.cadence_aggregate.specs.Server.{Sample, amount, level, member, timing, unclear, other}
 use Rattle.cadence_errors.specs.declared.MetricError.{MetricError}
-use Rattle.cadence_read.specs.Listed.{IsListed}
+use Rattle.cadence_read.proofs.OwnLines.{cut_once, own_cut}
+use Rattle.cadence_read.specs.Cuts.{IsCut, Parts, line_of_parts, own_parts}
 use Rattle.cadence_settings.specs.Call.{Choice, MetricCall, allows_call, chosen_time, is_clear_call, last_or, metric_of_call, tagged}
 use Rattle.cadence_settings.specs.CallData.{LineFails, call_of, line_of_data, metric_of_data, numbers_of_value}
 use Rattle.cadence_settings.specs.Laws.{StrictCallsAreClear}
 use Rattle.cadence_settings.specs.Settings.{FailsFor, Settings, is_clear_settings}
 use Rattle.cadence_settings.specs.declared.call.Call.{Call}
+use Rattle.cadence_text.proofs.grammar.LineText.{kind_once, number_lacks}
 use Rattle.cadence_text.specs.declared.line.MetricType.{MetricType}
 use Rattle.cadence_text.specs.declared.line.MetricType.TheVariants.{Counter, Gauge, Set}
-use Rattle.cadence_text.specs.Laws.{LineReadsOneWay}
-use Rattle.cadence_text.specs.Line.{line_of}
+use Rattle.cadence_text.specs.Line.{kind_text, line_of}
 use Rattle.cadence_text.specs.Metric.{Metric, Tag}
+use Rattle.cadence_text.specs.OneReading.{IsClear}
 use Rattle.cadence_text.specs.Representable.{IsRepresentable}
+use Rattle.cadence_value.proofs.lists.SplitTexts.{Lacks}
+use Rattle.cadence_value.proofs.spelling.OwnText.{own_text}
 use Rattle.cadence_value.specs.Number.{Number, natural, number_text, numbers_text, whole}
+use Rattle.cadence_value.specs.SpelledNumber.{SaysNumber}
+use Rattle.cadence_aggregating.specs.Additions.{IsAddable, IsAddition, context_of}
 use Rattle.cadence_aggregating.specs.Contexts.{IsLineOfZero, IsUntimed, MayFailFor, tagged_call, zeros}
-use Rattle.cadence_aggregating.specs.Keys.{IsKeyFor, IsKeyOfLine, SaysNeither}
+use Rattle.cadence_aggregating.specs.Keys.{IsKeyFor, IsKeyOfLine, SaysNeither, context_of_counter, context_of_gauge}
 use Rattle.cadence_aggregating.specs.declared.keys.LineKey.{LineKey}
 use Rattle.cadence_aggregating.specs.declared.keys.LineKey.TheVariants.{Raises, Sets}
+use Rattle.cadence_aggregating.specs.declared.said.Addition.{Addition}
+use Rattle.cadence_aggregating.specs.declared.said.Addition.TheVariants.{Amount, Level, Member, Timing}
 use Rattle.cadence_aggregating.specs.Printed.{spliced}
-use Rattle.cadence_aggregating.specs.Says.{LineSays, MetricSays, context_of, is_timed}
-use Rattle.cadence_aggregating.proofs.Sayable.{numbered, numbered_line, one_number}
+use Rattle.cadence_aggregating.specs.Says.{AreNumbers, IsContext, MetricSays, is_timed}
+use Rattle.cadence_aggregating.proofs.OwnContext.{own_addable}
+use Rattle.cadence_aggregating.proofs.Sayable.{whole_is_decimal}
+use Rattle.cadence_aggregating.proofs.Saying.{amount_said, context_cut, level_said, member_said, number_bar, parts_with, spliced_parts, timing_said, values_bar}
+use Rattle.cadence_aggregating.proofs.Values.{number_only}
 
 -- a call with tags alone has no time
 pub tags_untimed : (tags : List Tag) → last_or chosen_time None (map tagged tags) ≡ None
@@ -58,10 +70,10 @@ may_fail false e h = inr (h, refl)
 module _ {Z : Type 0} (s : Settings) (call : Call Z) (strict : IsTrue s.strict) (zero : numbers_of_value call.value ≡ Some zeros) where
   pub line_of_zero : (line : List ℕ) → StrictCallsAreClear → IsTrue (is_clear_settings s) → line_of_data s call ≡ Some line
       → IfSome (metric_of_data s call) IsRepresentable → IsLineOfZero s (call_of call []) line
-  line_of_zero line free settings has representable =
+  line_of_zero line clear settings has representable =
       let (allowed, whole, good) = found (λ ns. metric_of_call s (call_of call ns)) line_of IsRepresentable (allows_call s (call_of call []))
       (numbers_of_value call.value) zeros line zero has representable in
-      record { listed = record { representable = good; free = free s (call_of call zeros) strict settings allowed }; whole = whole }
+      record { clear = clear s (call_of call zeros) strict settings allowed; whole = whole }
 
   pub zero_fails : (e : MetricError) → LineFails (line_of_data s call) e → MayFailFor (is_clear_call (call_of call [])) e
   zero_fails e h =
@@ -77,59 +89,101 @@ zero_of_tagged s kind key given tags choices line same chosen zero =
     subst (λ k. IsLineOfZero s (record { kind = kind; key = k; numbers = []; choices = map tagged tags }) line) same
     (subst (λ cs. IsLineOfZero s (record { kind = kind; key = given; numbers = []; choices = cs }) line) chosen zero)
 
-module _ (s : Settings) (call : MetricCall) (line : List ℕ) (zero : IsLineOfZero s call line) (once : LineReadsOneWay) where
-  only : (m : Metric) → IsListed m → line_of m ≡ line → m ≡ metric_of_call s (record call { numbers = zeros })
-  only m listed its = once m (metric_of_call s (record call { numbers = zeros })) listed.free zero.listed.free (its ∙ sym zero.whole)
+-- the text of zero
+abbrev nought : Number
+nought = whole (pos 0)
 
-  kind_found : (m : Metric) → IsListed m → line_of m ≡ line → m.kind ≡ call.kind
+zero_number : SaysNumber (number_text nought) nought
+zero_number = own_text (number_text nought) nought (whole_is_decimal (pos 0) (search rules)) refl
+
+zero_text : SaysNumber (numbers_text zeros) nought
+zero_text = subst (λ t. SaysNumber t nought) (sym (append-nil (number_text nought))) zero_number
+
+zero_values : AreNumbers (numbers_text zeros)
+zero_values =
+    let plain : All (λ b. b ≢ 58) (number_text nought) = All-from_recursion (λ b. b ≢ 58) (number_text nought) (number_lacks nought) in
+    subst AreNumbers (sym (append-nil (number_text nought)))
+    (number_only (number_text nought) plain (nought, (whole_is_decimal (pos 0) (search rules), zero_number)))
+
+no_member : {kind : MetricType} → (kind ≡ Counter) ⊎ (kind ≡ Gauge) → kind ≡ Set → ⊥
+no_member (inl kind) is_set = cc (sym kind ∙ is_set)
+no_member (inr kind) is_set = cc (sym kind ∙ is_set)
+
+no_timing : {kind : MetricType} → (kind ≡ Counter) ⊎ (kind ≡ Gauge) → is_timed kind ≡ true → ⊥
+no_timing (inl kind) timed = cc (sym timed ∙ ap is_timed kind)
+no_timing (inr kind) timed = cc (sym timed ∙ ap is_timed kind)
+
+-- the line of a metric with other numbers
+abbrev numbered : Metric → List Number → Metric
+numbered m ns = record m { numbers = ns }
+
+numbered_line : (m : Metric) (n : Number) → line_of (numbered m (n ∷ [])) ≡ line_of_parts (record (own_parts m) { values = number_text n })
+unfolding line_of
+numbered_line m n = ap (λ t. line_of_parts (record (own_parts m) { values = t })) (append-nil (number_text n))
+
+-- What is known of a line with a context that is also the line of a metric: the kind is that of the metric, and the line of
+-- the context with a number is that of the metric with this number.
+module _ (kind : MetricType) (c values line : List ℕ) (h : IsContext kind c) (its : line ≡ spliced c values) (bar : Lacks 124 values)
+    (m : Metric) (clear : IsClear m) (whole_line : line_of m ≡ line) where
+  same_parts : parts_with kind c h values ≡ own_parts m
+  same_parts =
+      cut_once line (parts_with kind c h values) (own_parts m)
+      (subst (λ t. IsCut t (parts_with kind c h values)) (sym its) (context_cut kind c h values bar))
+      (subst (λ t. IsCut t (own_parts m)) whole_line (own_cut m clear))
+
+  same_kind : kind ≡ m.kind
+  same_kind = kind_once kind m.kind (ap (λ p. p.kind) same_parts)
+
+  same_line : (n : Number) → spliced c (number_text n) ≡ line_of (numbered m (n ∷ []))
+  same_line n =
+      spliced_parts kind c h (number_text n) ∙ ap (λ p. line_of_parts (record p { values = number_text n })) same_parts ∙ sym (numbered_line m n)
+
+module _ (s : Settings) (call : MetricCall) (line : List ℕ) (zero : IsLineOfZero s call line) where
+  abbrev own : Metric
+  own = metric_of_call s (record call { numbers = zeros })
+
+  kind_found : (kind : MetricType) (c values : List ℕ) → IsContext kind c → line ≡ spliced c values → Lacks 124 values → kind ≡ call.kind
   unfolding metric_of_call
-  kind_found m listed its = ap (λ x. x.kind) (only m listed its)
+  kind_found kind c values h its bar = same_kind kind c values line h its bar own zero.clear zero.whole
 
   -- the key of the line is that of the call
   pub key_for : (key : LineKey) → IsKeyOfLine line key → IsKeyFor s call key
   unfolding metric_of_call
-  key_for (Raises key) (m, listed, its, (kind, lines)) =
-      (sym (kind_found m listed its) ∙ kind, λ n. lines n ∙ ap (λ x. line_of (numbered x (whole n ∷ []))) (only m listed its))
-  key_for (Sets key) (m, listed, its, (kind, lines)) =
-      (sym (kind_found m listed its) ∙ kind, λ n. lines n ∙ ap (λ x. line_of (numbered x (natural n ∷ []))) (only m listed its))
+  key_for (Raises key) (n, (h, fits, (text, its, says))) =
+      let bar = number_bar text (whole n) says in
+      let c = context_of_counter key in
+      (sym (kind_found Counter c text h its bar), λ k. same_line Counter c text line h its bar own zero.clear zero.whole (whole k))
+  key_for (Sets key) (v, (h, its, numbers)) =
+      let bar = values_bar v numbers in
+      let c = context_of_gauge key in
+      (sym (kind_found Gauge c v h its bar), λ k. same_line Gauge c v line h its bar own zero.clear zero.whole (natural k))
+
+  own_says : (kind : MetricType) → own.kind ≡ kind → own.time ≡ None → (a : Addition) → IsAddition (own_parts own) a → (said : Sample) × MetricSays line said
+  own_says kind is untimed a added = subst (λ t. (said : Sample) × MetricSays t said) zero.whole
+      (says (line_of own) (own_parts own) (own_cut own zero.clear) (own_addable own zero.clear untimed) a added)
+    where
+      says : (l : List ℕ) (p : Parts) → IsCut l p → IsAddable l p.name → (a : Addition) → IsAddition p a → (said : Sample) × MetricSays l said
+      says l p cut addable (Amount n) h = (amount (context_of p) n, amount_said l p cut addable n h)
+      says l p cut addable Level h = (level (context_of p) p.values, level_said l p cut addable h)
+      says l p cut addable Member h = (member l, member_said l p cut addable h)
+      says l p cut addable Timing h = (timing (context_of p) p.values, timing_said l p cut addable h)
 
   -- the line says what it is made to say
   zero_says : (call.kind ≡ Counter) ⊎ (call.kind ≡ Gauge) → IsUntimed call → (said : Sample) × MetricSays line said
   unfolding metric_of_call
   zero_says (inl kind) untimed =
-      let m = metric_of_call s (record call { numbers = zeros }) in
       let fits : FitsSigned w64 (pos 0) = search rules in
-      (amount (context_of m) (pos 0), (m, zero.listed, zero.whole, (kind, untimed, refl, refl, fits)))
+      own_says Counter kind untimed (Amount (pos 0)) (Counter, ap kind_text kind, (refl, zero_text, fits))
   zero_says (inr kind) untimed =
-      let m = metric_of_call s (record call { numbers = zeros }) in
-      (level (context_of m) (numbers_text zeros), (m, zero.listed, zero.whole, (kind, untimed, refl, refl)))
-
-  no_member : (call.kind ≡ Counter) ⊎ (call.kind ≡ Gauge) → call.kind ≡ Set → ⊥
-  no_member (inl kind) is_set = cc (sym kind ∙ is_set)
-  no_member (inr kind) is_set = cc (sym kind ∙ is_set)
-
-  no_timing : (call.kind ≡ Counter) ⊎ (call.kind ≡ Gauge) → is_timed call.kind ≡ true → ⊥
-  no_timing (inl kind) timed = cc (sym timed ∙ ap is_timed kind)
-  no_timing (inr kind) timed = cc (sym timed ∙ ap is_timed kind)
+      own_says Gauge kind untimed Level (Gauge, ap kind_text kind, (refl, zero_values))
 
   -- the line of a call that counts raises a counter, and that of a call that sets a gauge sets one
   pub does_either : (call.kind ≡ Counter) ⊎ (call.kind ≡ Gauge) → IsUntimed call → SaysNeither line → ⊥
   does_either kinds untimed (amount c n, says, h) = absurd h
   does_either kinds untimed (level c v, says, h) = absurd h
-  does_either kinds untimed (member l, (m, listed, its, (k, time, same)), h) = no_member kinds (sym (kind_found m listed its) ∙ k)
-  does_either kinds untimed (timing c t, (m, listed, its, (timed, time, context, values, some)), h) =
-      no_timing kinds (ap is_timed (sym (kind_found m listed its)) ∙ timed)
+  does_either kinds untimed (member l, (same, (c, text, h, its, is)), none) =
+      no_member kinds (sym (kind_found Set c text h its (recursion_from_All (λ b. b ≢ 124) text is.bar)))
+  does_either kinds untimed (timing c t, ((kind, timed, h), its, numbers), none) =
+      no_timing kinds (ap is_timed (sym (kind_found kind c t h its (values_bar t numbers))) ∙ timed)
   does_either kinds untimed (unclear l, (same, nothing, marked), h) = let (said, says) = zero_says kinds untimed in nothing said says
   does_either kinds untimed (other l, (same, nothing, unmarked), h) = let (said, says) = zero_says kinds untimed in nothing said says
-
-pub counter_key : (line c t : List ℕ) (n : ℤ) → LineSays line (amount c n) → t ≡ c
-    → (m : Metric) × IsListed m × (line_of m ≡ line)
-    × ((m.kind ≡ Counter) × ((k : ℤ) → spliced t (number_text (whole k)) ≡ line_of (numbered m (whole k ∷ []))))
-counter_key line c t n (m, listed, its, (kind, time, context, numbers, fits)) same =
-    (m, listed, its, (kind, λ k. ap₂ spliced (same ∙ context) (sym (one_number (whole k))) ∙ sym (numbered_line m listed (whole k ∷ []))))
-
-pub gauge_key : (line c v t : List ℕ) → LineSays line (level c v) → t ≡ c
-    → (m : Metric) × IsListed m × (line_of m ≡ line)
-    × ((m.kind ≡ Gauge) × ((k : ℕ) → spliced t (number_text (natural k)) ≡ line_of (numbered m (natural k ∷ []))))
-gauge_key line c v t (m, listed, its, (kind, time, context, values)) same =
-    (m, listed, its, (kind, λ k. ap₂ spliced (same ∙ context) (sym (one_number (natural k))) ∙ sym (numbered_line m listed (natural k ∷ []))))

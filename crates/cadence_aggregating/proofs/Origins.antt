@@ -1,5 +1,5 @@
 -- Where the lines come from that an aggregator sends.
-use Rattle.std.proofs.Common.{◌≡◌, ◌<◌, ◌≤◌, inl, inr, ℕ, ◌+◌, ◌^◌, ◌/◌, ℤ, pos, negsuc, List, [], ◌∷◌, ◌++◌, length, map, refl, sym, ap, ap₂, subst, ◌∙◌, arith, lit<, unsigned_abs}
+use Rattle.std.proofs.Common.{◌≡◌, ◌<◌, ◌≤◌, inl, inr, ℕ, ◌+◌, ◌^◌, ◌/◌, ℤ, pos, negsuc, List, [], ◌∷◌, ◌++◌, length, map, refl, sym, ap, subst, ◌∙◌, arith, lit<, unsigned_abs}
 use Rattle.std.specs.Prelude.{All, Contains}
 use Rattle.std.specs.Int.RustNames.{FitsSigned}
 use Rattle.std.specs.List.{AllByRecursion, AllZip}
@@ -8,21 +8,21 @@ use Rattle.std.proofs.lemmas.List.Elements.{All-from_recursion, recursion_from_A
 use Rattle.std.proofs.Math.Nat.{div-le_self}
 use mir.Syntax.{w64}
 use Rattle.cadence_aggregate.specs.Server.{Sample, amount, level, member, timing, unclear, other, IsSummary}
-use Rattle.cadence_value.specs.Number.{decimal_text, number_text, numbers_text, whole}
+use Rattle.cadence_text.specs.declared.line.MetricType.TheVariants.{Counter}
+use Rattle.cadence_value.specs.Number.{decimal_text, number_text, whole}
 use Rattle.cadence_value.proofs.digits.Digits.{length-decimal_text-le}
 use Rattle.cadence_value.proofs.digits.NumberText.{sign, sign-pos, unsigned_text}
 use Rattle.cadence_aggregating.specs.Notes.{line_of_note, sample_of_note}
 use Rattle.cadence_aggregate.specs.Within.{AreWithin, StayWithin}
 use Rattle.cadence_aggregate.proofs.Within.{within_parts}
-use Rattle.cadence_aggregating.specs.Origins.{ComesFrom, IsMadeOf, IsNoLonger}
+use Rattle.cadence_aggregating.specs.Origins.{ComesFrom, HasContext, IsMadeOf, IsNoLonger}
 use Rattle.cadence_aggregating.specs.Past.{SumsUpWithin}
 use Rattle.cadence_aggregating.specs.Printed.{before_bar, from_bar, spliced, line_saying}
-use Rattle.cadence_aggregating.specs.Says.{LineSays, context_of}
+use Rattle.cadence_aggregating.specs.Says.{LineSays}
 use Rattle.cadence_aggregating.specs.declared.note.Note.{Note}
 use Rattle.cadence_aggregating.proofs.Among.{Among, amount_found, amount_shown, level_found, level_shown, member_found, member_shown, rest_found, other_shown, unclear_shown, is, is_level}
-use Rattle.cadence_aggregating.proofs.MetricParts.{line_parts}
 use Rattle.cadence_aggregating.proofs.Records.{among_left, among_mapped, sized}
-use Rattle.cadence_aggregating.proofs.Sayable.{IsSized, all_said, first_value, sayable, spliced_context, value_came}
+use Rattle.cadence_aggregating.proofs.Sayable.{IsSized, all_said, first_value, sayable, value_came}
 use Rattle.cadence_aggregating.proofs.Spliced.{cut_whole}
 
 contained : {X : Type 0} (x : X) (xs : List X) → Among x xs → Contains xs x
@@ -45,8 +45,7 @@ said_by_line (line ∷ lines) (x ∷ said) (here, rest) s (inr later) =
 
 -- a line that says the value of a gauge, a member of a set or itself is the text of what it says
 level_text : (line c v : List ℕ) → LineSays line (level c v) → spliced c v ≡ line
-level_text line c v (m, listed, its, (kind, time, context, values)) =
-    ap₂ spliced context values ∙ spliced_context m listed (numbers_text m.numbers) ∙ sym (line_parts m) ∙ its
+level_text line c v (context, its, numbers) = sym its
 
 -- the sizes of a counter's line
 size_abs : (z : ℤ) → FitsSigned w64 z → unsigned_abs z ≤ 2 ^ 63
@@ -83,9 +82,7 @@ size_spliced context values =
 
 -- the line of a timer, a histogram or a distribution is its context, a colon and its values
 timing_size : (line c t : List ℕ) → LineSays line (timing c t) → length line ≡ length c + length t + 1
-timing_size line c t (m, listed, its, (kind, time, context, values, some)) =
-    ap (λ l. length l) (sym its ∙ line_parts m) ∙ ap (λ l. length l) (sym (spliced_context m listed (numbers_text m.numbers)))
-    ∙ size_spliced (context_of m) (numbers_text m.numbers) ∙ ap₂ (λ a b. length a + length b + 1) (sym context) (sym values)
+timing_size line c t (kinds, its, numbers) = ap (λ l. length l) its ∙ size_spliced c t
 
 -- the values of accepted lines are within what those lines are within
 accepted_within : (most : ℕ) (lines : List (List ℕ)) (said : List Sample) → AllZip LineSays lines said
@@ -108,22 +105,27 @@ one_within most (x ∷ said) c t (inl same) within = (subst (λ s. AreWithin mos
 one_within most (x ∷ said) c t (inr later) within = one_within most said c t later (within_parts most (x ∷ []) said within).1
 
 module _ (limit : ℕ) (accepted : List (List ℕ)) (came sent : List Sample) (zip : AllZip LineSays accepted came) (same : IsSummary came sent) (stay : StayWithin limit came sent) where
-  -- what was sent is the line of a metric, as the record shows
+  -- what was sent is what its line says, as the record shows
   says_itself : (s : Sample) → Among s sent → IsSized s → LineSays (line_saying s) s
   says_itself = sayable came sent same (all_said accepted came zip)
+
+  -- the context of a line that is accepted
+  accepted_context : (c values line : List ℕ) → Among line accepted → line ≡ spliced c values → HasContext accepted c
+  accepted_context c values line here its = (values, subst (Contains accepted) its (contained line accepted here))
 
   sum_made : (c : List ℕ) (n : ℤ) → Among (amount c n) sent → FitsSigned w64 n → IsMadeOf limit accepted (line_saying (amount c n))
   sum_made c n among fits =
       let (k, there) = amount_found c came (same.counters (is c) ∙ amount_shown c n sent among) in
-      let (old, here, (m, listed, its, (kind, time, context, numbers, small))) = said_by_line accepted came zip (amount c k) there in
-      let (metric, listed', whole', (kind', time', context', numbers', fits')) = says_itself (amount c n) among fits in
+      let (old, here, (context, small, (number, its, says))) = said_by_line accepted came zip (amount c k) there in
       let size : length (spliced c (number_text (whole n))) ≤ length c + 21 = omega (arith, size_spliced c (number_text (whole n)), size_whole n fits) in
       record {
-        metric = metric;
-        listed = listed';
-        whole = whole';
-        context = (m, listed, subst (Contains accepted) (sym its) (contained old accepted here), sym context ∙ context');
-        kind = inl (kind', subst (λ d. length (spliced c (number_text (whole n))) ≤ length d + 21) context' size);
+        kind = Counter;
+        context = c;
+        values = number_text (whole n);
+        is = context;
+        whole = refl;
+        accepted_before = accepted_context c number old here its;
+        size = inl (refl, size);
       }
 
   values_within : (c t : List ℕ) → Among (timing c t) sent → IsNoLonger limit accepted (line_saying (timing c t))
@@ -135,14 +137,15 @@ module _ (limit : ℕ) (accepted : List (List ℕ)) (came sent : List Sample) (z
   values_made c t among =
       let (x, value) = first_value t in
       let (u, there, value') = value_came came sent same (all_said accepted came zip) c t x among value in
-      let (old, here, (m, listed, its, (kind, time, context, values, some))) = said_by_line accepted came zip (timing c u) there in
-      let (metric, listed', whole', (kind', time', context', values', some')) = says_itself (timing c t) among tt in
+      let (old, here, ((kind, timed, context), its, numbers)) = said_by_line accepted came zip (timing c u) there in
       record {
-        metric = metric;
-        listed = listed';
-        whole = whole';
-        context = (m, listed, subst (Contains accepted) (sym its) (contained old accepted here), sym context ∙ context');
-        kind = inr (kind', values_within c t among);
+        kind = kind;
+        context = c;
+        values = t;
+        is = context;
+        whole = refl;
+        accepted_before = accepted_context c u old here its;
+        size = inr (timed, values_within c t among);
       }
 
   unchanged : (s : Sample) → Said accepted s → ((line : List ℕ) → LineSays line s → line_saying s ≡ line) → ComesFrom limit accepted (line_saying s)
@@ -155,7 +158,7 @@ module _ (limit : ℕ) (accepted : List (List ℕ)) (came sent : List Sample) (z
       unchanged (level c v) (said_by_line accepted came zip (level c v) there) (λ line says. level_text line c v says)
   origin (member l) among fits =
       let there = member_found l came (same.members (is l) ∙ member_shown l sent among) in
-      unchanged (member l) (said_by_line accepted came zip (member l) there) (λ line (m, listed, its, (kind, time, whole)). whole ∙ its)
+      unchanged (member l) (said_by_line accepted came zip (member l) there) (λ line (whole, rest). whole)
   origin (timing c t) among fits = inr (values_made c t among)
   origin (unclear l) among fits =
       let there = rest_found (unclear l) came (subst (Among (unclear l)) (sym same.rest) (unclear_shown l sent among)) in

@@ -2,18 +2,13 @@
 use Rattle.std.specs.Prelude.{◌≡◌, ◌⊎◌, ℕ, Bool, false, List, [], ◌∷◌, None, map, pos}
 use Rattle.cadence_errors.specs.Errors.{IsInvalid, out_of_memory}
 use Rattle.cadence_errors.specs.declared.MetricError.{MetricError}
-use Rattle.cadence_read.specs.Listed.{IsListed}
 use Rattle.cadence_settings.specs.Call.{MetricCall, chosen_time, last_or, metric_of_call, tagged}
 use Rattle.cadence_settings.specs.Settings.{Settings}
 use Rattle.cadence_text.specs.declared.line.MetricType.{MetricType}
 use Rattle.cadence_text.specs.Line.{line_of}
-use Rattle.cadence_text.specs.Metric.{Metric, Tag}
+use Rattle.cadence_text.specs.Metric.{Tag}
+use Rattle.cadence_text.specs.OneReading.{IsClear}
 use Rattle.cadence_value.specs.Number.{Number, whole}
-use Rattle.cadence_aggregating.specs.Says.{context_of}
-
--- A metric of this kind without a time has this context, and no text of it has a separator.
-abbrev pub IsContextOf : MetricType → List ℕ → Type 0
-IsContextOf kind context = (m : Metric) × IsListed m × (m.kind ≡ kind) × (m.time ≡ None) × (context ≡ context_of m)
 
 -- a call with these tags, and without other options and numbers
 abbrev pub tagged_call : MetricType → List ℕ → List Tag → MetricCall
@@ -27,9 +22,9 @@ zeros = whole (pos 0) ∷ []
 abbrev pub IsUntimed : MetricCall → Type 0
 IsUntimed call = last_or chosen_time None call.choices ≡ None
 
--- This is the line of the call with the number 0, and no text of its metric has a separator.
+-- This is the line of the call with the number 0, and its metric is clear.
 pub record IsLineOfZero (settings : Settings) (call : MetricCall) (line : List ℕ) : Type 0 where
-  pub listed : IsListed (metric_of_call settings (record call { numbers = zeros }))
+  pub clear : IsClear (metric_of_call settings (record call { numbers = zeros }))
   pub whole : line_of (metric_of_call settings (record call { numbers = zeros })) ≡ line
 
 -- The error says why a key was not made: memory ran out, or a text has a separator, and then not all texts are free of

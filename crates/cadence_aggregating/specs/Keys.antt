@@ -1,12 +1,10 @@
 -- What contracts see of the keys of calls that make no line.
 use Rattle.std.specs.Prelude.{◌≡◌, ℕ, ℤ, List, [], ◌∷◌, string_bytes}
 use Rattle.cadence_aggregate.specs.Server.{Sample, amount, level, member, timing, unclear, other}
-use Rattle.cadence_read.specs.Listed.{IsListed}
 use Rattle.cadence_settings.specs.Call.{MetricCall, metric_of_call}
 use Rattle.cadence_settings.specs.Settings.{Settings}
 use Rattle.cadence_text.specs.declared.line.MetricType.TheVariants.{Counter, Gauge}
 use Rattle.cadence_text.specs.Line.{line_of}
-use Rattle.cadence_text.specs.Metric.{Metric}
 use Rattle.cadence_value.specs.Number.{natural, number_text, whole}
 use Rattle.cadence_aggregating.specs.Printed.{line_saying}
 use Rattle.cadence_aggregating.specs.Says.{LineSays}
@@ -44,14 +42,10 @@ abbrev pub IsKeyFor : Settings → MetricCall → LineKey → Type 0
 IsKeyFor settings call (Raises key) = (call.kind ≡ Counter) × CountsFor settings call key
 IsKeyFor settings call (Sets key) = (call.kind ≡ Gauge) × SetsFor settings call key
 
--- Each line of the key is the line of this metric with one other number.
-abbrev pub IsKeyOf : Metric → LineKey → Type 0
-IsKeyOf m (Raises key) = (m.kind ≡ Counter) × ((n : ℤ) → line_of_counter key n ≡ line_of (record m { numbers = whole n ∷ [] }))
-IsKeyOf m (Sets key) = (m.kind ≡ Gauge) × ((n : ℕ) → line_of_gauge key n ≡ line_of (record m { numbers = natural n ∷ [] }))
-
--- The line is that of a metric with this key.
+-- The line raises the counter of the key, or sets its gauge.
 abbrev pub IsKeyOfLine : List ℕ → LineKey → Type 0
-IsKeyOfLine line key = (m : Metric) × IsListed m × (line_of m ≡ line) × IsKeyOf m key
+IsKeyOfLine line (Raises key) = (n : ℤ) × LineSays line (amount (context_of_counter key) n)
+IsKeyOfLine line (Sets key) = (v : List ℕ) × LineSays line (level (context_of_gauge key) v)
 
 -- This neither raises a counter by a whole number nor sets a gauge to a value of its own.
 abbrev pub IsNeither : Sample → Type 0

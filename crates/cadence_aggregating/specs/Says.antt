@@ -1,24 +1,15 @@
--- What a line says: what its metric adds to others of its context, or, if it can't be added, the line itself.
-use Rattle.std.specs.Prelude.{◌≡◌, ◌<◌, ℕ, Bool, true, false, None, List, [], ◌∷◌, ◌++◌, codes, length}
+-- What a line of any client says: what its metric adds to others of its context, or, if it can't be added, the line itself.
+use Rattle.std.specs.Prelude.{◌≡◌, ◌≢◌, ℕ, Bool, true, false, List, ◌∷◌, ◌++◌, All, codes}
 use Rattle.std.specs.Int.RustNames.{FitsSigned}
 use mir.Syntax.{w64}
-use Rattle.cadence_aggregate.specs.Server.{Sample, amount, level, member, timing, unclear, other}
-use Rattle.cadence_read.specs.Listed.{IsListed}
+use Rattle.cadence_aggregate.specs.Server.{Sample, amount, level, member, timing, unclear, other, values_in}
+use Rattle.cadence_read.specs.Cuts.{AreFields}
 use Rattle.cadence_text.specs.declared.line.MetricType.{MetricType}
 use Rattle.cadence_text.specs.declared.line.MetricType.TheVariants.{Counter, Timer, Gauge, Meter, Histogram, Set, Distribution}
-use Rattle.cadence_text.specs.Line.{kind_text, rate_field, tags_field, container_field, time_field, line_of}
-use Rattle.cadence_text.specs.Metric.{Metric}
-use Rattle.cadence_value.specs.Number.{numbers_text, whole}
-
--- the text of a metric's line from its first bar on
-abbrev pub fields_of : Metric → List ℕ
-fields_of m =
-    codes "|" ++ (kind_text m.kind
-    ++ (rate_field m.rate ++ (tags_field m.tags ++ (container_field m.container ++ time_field m.time))))
-
--- the context of a metric: its line without the numbers and the colon before them
-abbrev pub context_of : Metric → List ℕ
-context_of m = m.name ++ fields_of m
+use Rattle.cadence_text.specs.Line.{kind_text}
+use Rattle.cadence_value.specs.Number.{Number, whole}
+use Rattle.cadence_value.specs.SpelledNumber.{SaysDecimal, SaysNumber}
+use Rattle.cadence_aggregating.specs.Printed.{spliced}
 
 -- whether the numbers of this kind are values whose distribution a server computes
 abbrev pub is_timed : MetricType → Bool
@@ -30,22 +21,58 @@ is_timed Histogram = true
 is_timed Set = false
 is_timed Distribution = true
 
--- The metric can be added to others of its context, and says this. A counter has to have one whole number, of 64 bits.
--- A metric with a time says what was so at that time, and is not added.
-abbrev pub Says : Metric → Sample → Type 0
-Says m (amount c n) =
-    (m.kind ≡ Counter) × (m.time ≡ None) × (c ≡ context_of m) × (m.numbers ≡ whole n ∷ []) × FitsSigned w64 n
-Says m (level c v) = (m.kind ≡ Gauge) × (m.time ≡ None) × (c ≡ context_of m) × (v ≡ numbers_text m.numbers)
-Says m (member l) = (m.kind ≡ Set) × (m.time ≡ None) × (l ≡ line_of m)
-Says m (timing c t) =
-    (is_timed m.kind ≡ true) × (m.time ≡ None) × (c ≡ context_of m) × (t ≡ numbers_text m.numbers)
-    × (0 < length m.numbers)
-Says m (unclear l) = ⊥
-Says m (other l) = ⊥
+-- The text has a comma.
+abbrev pub HasComma : List ℕ → Type 0
+HasComma text = (before : List ℕ) × (after : List ℕ) × (text ≡ before ++ 44 ∷ after)
 
--- The line is that of a metric which says this.
+-- The name begins as an event of DogStatsD does, as in `_e{5,4}`.
+abbrev pub IsEventName : List ℕ → Type 0
+IsEventName name = (rest : List ℕ) × (name ≡ codes "_e{" ++ rest) × HasComma rest
+
+-- One of the fields is a time: somewhere the text has a bar and then a `T`. A metric with a time says what was so at that
+-- time.
+abbrev pub HasTime : List ℕ → Type 0
+HasTime text = (before : List ℕ) × (after : List ℕ) × (text ≡ before ++ (codes "|T" ++ after))
+
+-- This is the context of lines of this kind: the line of a metric without the values and the colon before them. It is a
+-- name, a bar, the kind, and any other fields, each with a bar before it, but no time. What the fields are makes no
+-- difference. The name is not that of an event.
+pub record IsContext (kind : MetricType) (context : List ℕ) : Type 0 where
+  pub name : List ℕ
+  pub fields : List ℕ
+  pub whole : context ≡ name ++ 124 ∷ (kind_text kind ++ fields)
+  pub colon : All (λ byte. byte ≢ 58) name
+  pub bar : All (λ byte. byte ≢ 124) name
+  pub newline : All (λ byte. byte ≢ 10) context
+  pub event : IsEventName name → ⊥
+  pub marked : AreFields fields
+  pub time : HasTime context → ⊥
+
+-- The text is a number, in any spelling.
+abbrev pub IsNumberText : List ℕ → Type 0
+IsNumberText text = (n : Number) × SaysDecimal text n
+
+-- The text is numbers, with a colon between each two.
+abbrev pub AreNumbers : List ℕ → Type 0
+AreNumbers values = All IsNumberText (values_in values)
+
+-- The text can be a member of a set: it ends neither its field nor its line.
+pub record IsMember (text : List ℕ) : Type 0 where
+  pub bar : All (λ byte. byte ≢ 124) text
+  pub newline : All (λ byte. byte ≢ 10) text
+
+-- The line is that of a metric which can be added to others of its context, and says this. A counter has to have one whole
+-- number, in any spelling, that fits 64 bits. The values of a gauge, a timer, a histogram and a distribution are numbers,
+-- and a member of a set is any text.
 abbrev pub MetricSays : List ℕ → Sample → Type 0
-MetricSays line said = (m : Metric) × IsListed m × (line_of m ≡ line) × Says m said
+MetricSays line (amount c n) =
+    IsContext Counter c × FitsSigned w64 n × ((number : List ℕ) × (line ≡ spliced c number) × SaysNumber number (whole n))
+MetricSays line (level c v) = IsContext Gauge c × (line ≡ spliced c v) × AreNumbers v
+MetricSays line (member l) = (l ≡ line) × ((c : List ℕ) × (text : List ℕ) × IsContext Set c × (line ≡ spliced c text) × IsMember text)
+MetricSays line (timing c t) =
+    ((kind : MetricType) × (is_timed kind ≡ true) × IsContext kind c) × (line ≡ spliced c t) × AreNumbers t
+MetricSays line (unclear l) = ⊥
+MetricSays line (other l) = ⊥
 
 -- Somewhere the line has a bar and then a `g`, as each line of a gauge has, so that a server may set a gauge by it.
 abbrev pub MaySetGauge : List ℕ → Type 0

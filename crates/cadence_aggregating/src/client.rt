@@ -66,7 +66,7 @@ impl<H: FlushErrorHandler + Send + Sync + 'static> AggregatingMetricSinkBuilder<
     ) -> MetricResult<AggregatedClient<S, R, H>>
         ensures settings { IfOk result (λ client.
             settings_of_aggregated client ≡ with_strict_texts settings) }
-        ensures free { OnOk result (IsTrue (is_clear_settings settings)) }
+        ensures clear { OnOk result (IsTrue (is_clear_settings settings)) }
         ensures refused { IfErr result (λ e. IsQueuingRefusal e
             ⊎ (IsInvalid e × (is_clear_settings settings ≡ false))) }
     {

@@ -5,13 +5,13 @@ ghost use Rattle.cadence_settings.specs.Call.{is_clear_call, tagged};
 ghost use Rattle.cadence_settings.specs.CallData.{call_of, choice_of, kind_of_value, numbers_of_value};
 ghost use Rattle.cadence_text.specs.Record.{tag_of};
 ghost use Rattle.cadence_text.specs.declared.line.MetricType.TheVariants.{Counter, Gauge};
-ghost use Rattle.cadence_aggregating.specs.Contexts.{IsContextOf, IsLineOfZero, MayFailFor, tagged_call, zeros};
+ghost use Rattle.cadence_aggregating.specs.Contexts.{IsLineOfZero, MayFailFor, tagged_call, zeros};
+ghost use Rattle.cadence_aggregating.specs.Says.{IsContext};
 
 use crate::said::read_said;
 use cadence_aggregate::Line;
 use cadence_errors::{ErrorKind, MetricError, MetricResult};
 use cadence_settings::{Call, CallOption, CallValue, ClientSettings, strict_calls_are_clear};
-use cadence_text::laws::line_reads_one_way;
 use cadence_text::line::Tag;
 use std::alloc::{AllocError, Global};
 
@@ -29,9 +29,9 @@ impl StrictSettings {
     /// separator.
     pub(crate) fn new(settings: ClientSettings) -> MetricResult<StrictSettings>
         ensures settings { IfOk result (λ made. made.settings ≡ with_strict_texts settings) }
-        ensures free { OnOk result (IsTrue (is_clear_settings settings)) }
+        ensures clear { OnOk result (IsTrue (is_clear_settings settings)) }
         ensures refused { IfErr result IsInvalid }
-        ensures unfree { OnErr result (IsFalse (is_clear_settings settings)) }
+        ensures unclear { OnErr result (IsFalse (is_clear_settings settings)) }
     {
         let mut settings = settings;
         settings.set_strict()?;
@@ -59,14 +59,14 @@ impl StrictSettings {
 #[derive(Drop)]
 pub struct CounterKey {
     pub(crate) context: String,
-    pub ghost of: { ∥ IsContextOf Counter (string_bytes context) ∥₁ },
+    pub ghost of: { ∥ IsContext Counter (string_bytes context) ∥₁ },
 }
 
 /// The key of a gauge, with all else that its lines have but the value. An `AggregatedClient` makes it once.
 #[derive(Drop)]
 pub struct GaugeKey {
     pub(crate) context: String,
-    pub ghost of: { ∥ IsContextOf Gauge (string_bytes context) ∥₁ },
+    pub ghost of: { ∥ IsContext Gauge (string_bytes context) ∥₁ },
 }
 
 // Returns the error for a line that can't be added to others. It never comes, because the lines of keys can.
@@ -94,7 +94,7 @@ impl LineKey {
         ensures none { IfOk result (λ made. IfNone made (SaysNeither line.now)) }
     {
         let mut text = String::new(alloc);
-        match read_said(alloc, line, &mut text)? {
+        match read_said(line, &mut text)? {
             Line::Amount(context, _) => Ok(Some(LineKey::Raises(CounterKey {
                 context: String::from_str(alloc, context)?,
             }))),
@@ -125,7 +125,6 @@ impl StrictSettings {
         ensures refused { IfErr result (MayFailFor (is_clear_call
             (tagged_call (kind_of_value value) key.now (map tag_of tags.now)))) }
     {
-        line_reads_one_way();
         let call = Call {
             key: String::from_str(alloc, key)?,
             value,

@@ -26,8 +26,8 @@ fn cut_context(context: &str) -> (&str, Option<&str>)
     }
 }
 
-// Writes a bar and the text after it, if there is one, at the end of a text.
-fn write_fields(text: &mut String, fields: Option<&str>) -> Result<(), AllocError>
+/// Writes a bar and the text after it, if there is one, at the end of a text.
+pub(crate) fn write_fields(text: &mut String, fields: Option<&str>) -> Result<(), AllocError>
     ensures { OnOk result (string_bytes text.new
         ≡ string_bytes text.old ++ barred (option_copied fields.entry)) }
 {

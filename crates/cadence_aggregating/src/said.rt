@@ -1,74 +1,198 @@
-//! Reads what a line says.
-ghost use Rattle.std.specs.Prelude.{◌≡◌, ◌≢◌, ◌↔◌, ◌∷◌, ◌++◌, [], true, ℕ, ℤ, List, All, FitsSigned, IfNone, IfOk, IfSome, OnOk, string_bytes};
+//! Reads what a line says. The line may be that of any client.
+ghost use Rattle.std.specs.Prelude.{◌≡◌, ◌≢◌, ◌↔◌, ◌∷◌, ◌++◌, true, ℤ, All, IfNone, IfOk, IfSome, IsTrue, OnOk, FitsSigned, string_bytes};
+ghost use Rattle.std.specs.Option.{option_copied, option_map};
 ghost use mir.Syntax.{w64};
 ghost use Rattle.cadence_aggregate.specs.Lines.{sample_of};
-ghost use Rattle.cadence_aggregate.specs.Server.{Sample};
-ghost use Rattle.cadence_read.specs.Listed.{IsMetricOf};
-ghost use Rattle.cadence_text.specs.OneReading.{IsNoSeparator};
-ghost use Rattle.cadence_text.specs.Owned.{metric_of_owned};
+ghost use Rattle.cadence_read.specs.Cuts.{IsCut};
+ghost use Rattle.cadence_value.specs.Finds.{Finds};
 ghost use Rattle.cadence_value.specs.Number.{whole};
-ghost use Rattle.cadence_aggregating.specs.Says.{IsNotAdded, LineSays, MaySetGauge, Says};
-ghost use Rattle.cadence_aggregating.specs.Additions.{IsAddition};
+ghost use Rattle.cadence_value.specs.SpelledNumber.{SaysNumber};
+ghost use Rattle.cadence_aggregating.specs.Additions.{IsAddable, IsAddedAs, IsAddition, IsAdditionBy, context_of, parts_of_text};
+ghost use Rattle.cadence_aggregating.specs.Printed.{barred};
+ghost use Rattle.cadence_aggregating.specs.Says.{AreNumbers, HasComma, HasTime, IsEventName, IsNotAdded, IsNumberText, LineSays, MaySetGauge};
 
+use crate::printed::write_fields;
 use cadence_aggregate::Line;
-use cadence_read::{ReadFault, read_line};
-use cadence_text::laws::line_reads_one_way;
-use cadence_text::line::{MetricType, OwnedMetric};
-use cadence_value::bytes::split_text_once;
+use cadence_text::line::MetricType;
+use cadence_value::bytes::{split_once, split_text_once};
 use cadence_value::decimal::Decimal;
-use std::alloc::{AllocError, Global};
+use cadence_value::spelled::read_spelled;
+use std::alloc::AllocError;
 
-/// How a metric is added to others of its context.
+/// How the values of a line are added to others of its context.
 #[derive(Clone, Copy)]
 pub(crate) enum Addition {
     /// This is added to a sum.
     Amount(i64),
     /// The value is the last one of a gauge.
     Level,
-    /// The number is a member of a set.
+    /// The text is a member of a set.
     Member,
     /// The values are put beside those of a timer, a histogram or a distribution.
     Timing,
 }
 
-// Returns the number of a list that has one number, which is whole and fits 64 bits.
-fn whole_number(numbers: &[Decimal]) -> Option<i64>
-    ensures some { IfSome result (λ n. numbers.now ≡ whole n ∷ []) }
-    ensures none { IfNone result ((n : ℤ) → FitsSigned w64 n → numbers.now ≡ whole n ∷ [] → ⊥) }
+/// The parts of a metric's line, as `cut_line` of `cadence_read` finds them in bytes.
+#[derive(Clone, Copy)]
+pub(crate) struct TextParts<'a> {
+    name: &'a str,
+    values: &'a str,
+    kind: &'a str,
+    /// The text behind the bar after the kind, if there is one.
+    fields: Option<&'a str>,
+}
+
+// Cuts a text before its first bar, and returns the text behind that bar too, if there is one.
+fn cut_kind(text: &str) -> (&str, Option<&str>)
+    ensures whole { text.now ≡ result.0.now ++ barred (option_copied result.1) }
+    ensures front { All (λ byte. byte ≢ 124) result.0.now }
 {
-    let [number] = numbers else {
-        return None;
-    };
+    match split_text_once(text, b'|') {
+        Some((kind, fields)) => (kind, Some(fields)),
+        None => (text, None),
+    }
+}
+
+// Cuts the line of a metric.
+fn cut_metric(line: &str) -> Option<TextParts<'_>>
+    ensures { Finds (IsCut line.now) (option_map parts_of_text result) }
+{
+    let (head, others) = split_text_once(line, b'|')?;
+    let (name, values) = split_text_once(head, b':')?;
+    let (kind, fields) = cut_kind(others);
+    Some(TextParts {
+        name,
+        values,
+        kind,
+        fields,
+    })
+}
+
+// Returns whether a text is a number, in any spelling.
+fn is_number(text: &str) -> bool
+    ensures { IsTrue result ↔ IsNumberText text.now }
+{
+    read_spelled(text).is_some()
+}
+
+// Returns whether each of the values, which have a colon between each two, is a number.
+fn are_numbers(values: &str) -> bool
+    ensures { IsTrue result ↔ AreNumbers values.now }
+{
+    let mut left = values;
+    while let Some((value, others)) = split_text_once(left, b':') {
+        if !is_number(value) {
+            return false;
+        }
+        left = others;
+    }
+    is_number(left)
+}
+
+// Returns the whole number that a decimal is, if it fits 64 bits.
+fn whole_of(number: Decimal) -> Option<i64>
+    ensures some { IfSome result (λ n. number ≡ whole n) }
+    ensures none { IfNone result ((n : ℤ) → FitsSigned w64 n → number ≡ whole n → ⊥) }
+{
     if number.places() != 0 {
         return None;
     }
     i64::try_from(number.mantissa()).ok()
 }
 
-// Returns how a metric is added, or `None` if it can't be.
-fn addition_of(metric: &OwnedMetric) -> Option<Addition>
-    ensures some { IfSome result (IsAddition (metric_of_owned metric.now)) }
-    ensures none { IfNone result ((said : Sample) → Says (metric_of_owned metric.now) said → ⊥) }
+// Returns the whole number that a text says, if it fits 64 bits.
+fn whole_number(text: &str) -> Option<i64>
+    ensures some { IfSome result (λ n. SaysNumber text.now (whole n)) }
+    ensures none { IfNone result ((n : ℤ) → FitsSigned w64 n →
+        SaysNumber text.now (whole n) → ⊥) }
 {
-    if metric.time.is_some() {
-        return None;
+    match read_spelled(text) {
+        Some(number) => whole_of(number),
+        None => None,
     }
-    match metric.kind {
-        MetricType::Counter => match whole_number(&metric.numbers) {
+}
+
+// Returns this, if each of the values is a number.
+fn if_numbers(values: &str, addition: Addition) -> Option<Addition>
+    ensures some { IfSome result (λ a. (a ≡ addition) × AreNumbers values.now) }
+    ensures none { IfNone result (AreNumbers values.now → ⊥) }
+{
+    if are_numbers(values) {
+        return Some(addition);
+    }
+    None
+}
+
+// Returns how values of this kind are added, or `None` if they can't be.
+fn addition_by(kind: MetricType, values: &str) -> Option<Addition>
+    ensures { Finds (IsAdditionBy kind values.now) result }
+{
+    match kind {
+        MetricType::Counter => match whole_number(values) {
             Some(by) => Some(Addition::Amount(by)),
             None => None,
         },
-        MetricType::Gauge => Some(Addition::Level),
+        MetricType::Gauge => if_numbers(values, Addition::Level),
         MetricType::Set => Some(Addition::Member),
         MetricType::Meter => None,
         MetricType::Timer | MetricType::Histogram | MetricType::Distribution => {
-            if metric.numbers.is_empty() {
-                None
-            } else {
-                Some(Addition::Timing)
-            }
+            if_numbers(values, Addition::Timing)
         }
     }
+}
+
+// Returns how the values of a line are added, or `None` if they can't be.
+fn addition_of(parts: TextParts<'_>) -> Option<Addition>
+    ensures { Finds (IsAddition (parts_of_text parts.entry)) result }
+{
+    match MetricType::from_text(parts.kind.as_bytes()) {
+        Some(kind) => addition_by(kind, parts.values),
+        None => None,
+    }
+}
+
+// Returns whether a text has a comma.
+fn has_comma(text: &[u8]) -> bool
+    ensures { IsTrue result ↔ HasComma text.now }
+{
+    match split_once(text, b',') {
+        Some(_) => true,
+        None => false,
+    }
+}
+
+// Returns whether a name begins as an event of DogStatsD does.
+fn is_event_name(name: &str) -> bool
+    ensures { IsTrue result ↔ IsEventName name.now }
+{
+    match name.as_bytes().strip_prefix(b"_e{") {
+        Some(rest) => has_comma(rest),
+        None => false,
+    }
+}
+
+// Returns whether a line has a bar and then a `T`, as each line with a time has.
+fn has_time(line: &str) -> bool
+    ensures { (result ≡ true) ↔ HasTime line.now }
+{
+    line.contains("|T")
+}
+
+// Returns whether a text has no newline.
+fn is_single_line(text: &str) -> bool
+    ensures { IsTrue result ↔ All (λ byte. byte ≢ 10) text.now }
+{
+    match split_text_once(text, b'\n') {
+        Some(_) => false,
+        None => true,
+    }
+}
+
+// Returns whether a line with this name may be added to others.
+fn is_addable(line: &str, name: &str) -> bool
+    ensures { IsTrue result ↔ IsAddable line.now name.now }
+{
+    is_single_line(line) && !is_event_name(name) && !has_time(line)
 }
 
 // Returns whether a line has a bar and then a `g`, as each line of a gauge has.
@@ -90,66 +214,46 @@ fn not_added(line: &str) -> Line<'_>
     }
 }
 
-// Cuts a line into the name before the first colon, the values up to the next bar, and the text after that bar.
-fn cut_parts(line: &str) -> Option<(&str, &str, &str)>
-    ensures name { IfSome result (λ parts. All (λ byte. byte ≢ 58) parts.0.now) }
-    ensures values { IfSome result (λ parts. All (λ byte. byte ≢ 124) parts.1.now) }
-    ensures whole { IfSome result (λ parts.
-        line.now ≡ parts.0.now ++ 58 ∷ (parts.1.now ++ 124 ∷ parts.2.now)) }
-    ensures none { IfNone result ((name values rest : List ℕ) → All IsNoSeparator name →
-        line.now ≡ name ++ 58 ∷ (values ++ 124 ∷ rest) → ⊥) }
-{
-    let (name, rest) = split_text_once(line, b':')?;
-    let (values, fields) = split_text_once(rest, b'|')?;
-    Some((name, values, fields))
-}
-
-// Writes a context: a name, a bar and the text after it.
-fn write_context(context: &mut String, name: &str, fields: &str) -> Result<(), AllocError>
-    ensures { OnOk result (string_bytes context.new ≡ name.now ++ 124 ∷ fields.now) }
+// Writes the context of a line that was cut.
+fn write_context(context: &mut String, parts: TextParts<'_>) -> Result<(), AllocError>
+    ensures { OnOk result (string_bytes context.new ≡ context_of (parts_of_text parts.entry)) }
 {
     context.clear();
-    context.push_str(name)?;
+    context.push_str(parts.name)?;
     context.push('|')?;
-    context.push_str(fields)
+    context.push_str(parts.kind)?;
+    write_fields(context, parts.fields)
 }
 
-// Returns what the line of a metric says.
-fn line_of_metric<'a>(
-    line: &'a str,
-    metric: &OwnedMetric,
-    context: &'a mut String,
-) -> Result<Line<'a>, AllocError>
-    requires { IsMetricOf line.now (metric_of_owned metric.now) }
-    ensures { IfOk result (λ said. LineSays line.now (sample_of said)) }
+// Returns the parts of a line whose metric can be added to others, and how it is added.
+fn addable_of(line: &str) -> Option<(TextParts<'_>, Addition)>
+    ensures { Finds (IsAddedAs line.now) (option_map (λ a. (parts_of_text a.0, a.1)) result) }
 {
-    line_reads_one_way();
-    let Some(addition) = addition_of(metric) else {
-        return Ok(not_added(line));
+    let Some(parts) = cut_metric(line) else {
+        return None;
     };
-    let Some((name, values, fields)) = cut_parts(line) else {
-        return Ok(Line::Other(line));
-    };
-    write_context(context, name, fields)?;
-    match addition {
-        Addition::Amount(by) => Ok(Line::Amount(context, by)),
-        Addition::Level => Ok(Line::Level(context, values)),
-        Addition::Member => Ok(Line::Member(line)),
-        Addition::Timing => Ok(Line::Timing(context, values)),
+    if !is_addable(line, parts.name) {
+        return None;
+    }
+    match addition_of(parts) {
+        Some(addition) => Some((parts, addition)),
+        None => None,
     }
 }
 
-/// Reads what a line says. Its context, if it has one, is written into `context`, in place of what that had.
-pub fn read_said<'a>(
-    alloc: Global,
-    line: &'a str,
-    context: &'a mut String,
-) -> Result<Line<'a>, AllocError>
+/// Reads what a line says. Its context, if it has one, is written into `context`, in place of what that had. The only
+/// error is that memory ran out.
+pub fn read_said<'a>(line: &'a str, context: &'a mut String) -> Result<Line<'a>, AllocError>
     ensures { IfOk result (λ said. LineSays line.now (sample_of said)) }
 {
-    match read_line(&alloc, line.as_bytes()) {
-        Ok(metric) => line_of_metric(line, &metric, context),
-        Err(ReadFault::Unusable(_)) => Ok(not_added(line)),
-        Err(ReadFault::OutOfMemory) => Err(AllocError),
+    let Some((parts, addition)) = addable_of(line) else {
+        return Ok(not_added(line));
+    };
+    write_context(context, parts)?;
+    match addition {
+        Addition::Amount(by) => Ok(Line::Amount(context, by)),
+        Addition::Level => Ok(Line::Level(context, parts.values)),
+        Addition::Member => Ok(Line::Member(line)),
+        Addition::Timing => Ok(Line::Timing(context, parts.values)),
     }
 }

@@ -19,11 +19,13 @@ pub(crate) enum Timed<S: MetricSink, R: Wait + Drop, H: FlushErrorHandler> {
 
 /// A sink that adds up lines before it hands them to the wrapped sink. Counters are summed, of a gauge's values the
 /// last one is kept, and each member of a set is kept once. `flush` hands on one line for each context, and then
-/// flushes the wrapped sink. A context is a line without its values: its name, kind, sampling rate, tags and container.
+/// flushes the wrapped sink. A context is a line without its values: its name, kind, sampling rate, tags and any other fields.
 ///
-/// Lines that can't be added are handed on at once: those with a timestamp, decimals of counters, values of gauges with
-/// a sign, and texts that are no lines of metrics. The values of gauges that are held come before such a line if it may
-/// set a gauge, because it has `|g` in it. A server knows the same from the lines that the wrapped sink took,
+/// The lines may be those of any client. What their tags and other fields are makes no difference, and numbers are added
+/// in any spelling, such as `+3` and `1e3`. Lines that can't be added are handed on at once: those with a timestamp,
+/// counters that aren't raised by one whole number, values of gauges with a sign, values that aren't numbers, and texts
+/// that are no lines of metrics. The values of gauges that are held come before such a line if it may set a gauge, because
+/// it has `|g` in it. A server knows the same from the lines that the wrapped sink took,
 /// and those that the next flush hands on, as from the lines that were emitted, whichever contexts it takes for one.
 ///
 /// `emit` returns the length of the line. Its errors are those of the wrapped sink, if a line had to be handed on, and

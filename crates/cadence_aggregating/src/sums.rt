@@ -20,7 +20,6 @@ use std::alloc::{AllocError, Global};
 /// of these lines (`HasSummary`), before each call and after it.
 #[derive(Drop)]
 pub struct Sums {
-    alloc: Global,
     limits: Limits,
     aggregator: Aggregator,
     context: String,
@@ -71,7 +70,6 @@ impl Sums {
     {
         let aggregator = Aggregator::new(alloc, limits.most_contexts, limits.most_bytes)?;
         Ok(Sums {
-            alloc,
             limits,
             aggregator,
             context: String::new(alloc),
@@ -100,7 +98,7 @@ impl Sums {
         ensures leads { S.leads sink.old sink.new }
         ensures limits { limits_of self.new ≡ limits_of self.old }
     {
-        let said = read_said(self.alloc, line, &mut self.context)?;
+        let said = read_said(line, &mut self.context)?;
         let is_held = self.limits.holds(&said, line.len());
         add_or_pass(&mut self.aggregator, sink, said, is_held)?;
         self.accepted = self.accepted.and(&Accepted::of(Line::Other(line)));

@@ -9,8 +9,9 @@ use cadence_flow::io::DEFAULT_CAPACITY;
 use cadence_settings::ClientSettings;
 use cadence_text::line::{OwnedTag, Tag, lend_tag};
 use cadence_value::decimal::Decimal;
+use cadence_value::spelled::read_spelled;
 use cadence_words::{
-    Chance, Defaults, Fields, Subject, is_word, read_alert, read_printed, read_priority, read_tag,
+    Chance, Defaults, Fields, Subject, is_word, read_alert, read_priority, read_tag,
 };
 use std::alloc::Allocator;
 
@@ -61,7 +62,7 @@ pub struct Options<'a, A: Allocator> {
 
 // Reads a whole number.
 fn read_whole(value: &str) -> Option<u64> {
-    let number = read_printed(value)?;
+    let number = read_spelled(value)?;
     if number.places() > 0 {
         return None;
     }
@@ -70,7 +71,7 @@ fn read_whole(value: &str) -> Option<u64> {
 
 // Reads a number above 0.
 fn read_positive(value: &str) -> Option<Decimal> {
-    read_printed(value).filter(|number| number.mantissa() > 0)
+    read_spelled(value).filter(|number| number.mantissa() > 0)
 }
 
 // Reads a name, or an id.

@@ -4,6 +4,8 @@ pub mod Finds
 pub mod PrintedNumber
 pub mod Digits
 pub mod DenotedNumber
+pub mod SpelledNumber
+pub mod Trimmed
 pub mod Values
 pub mod Takes
 pub mod InMemory

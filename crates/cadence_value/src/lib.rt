@@ -1,6 +1,7 @@
 //! Decimal numbers, the values of metrics, and the texts of both.
 //!
 //! - `decimal`: exact decimal numbers, and how they are read from a text.
+//! - `spelled`: reads numbers in any spelling, as in `.5`, `+3` and `1.5e+06`.
 //! - `value`: the values of metrics, and the types that each kind of metric accepts as its value.
 //! - `text`: writes numbers and values into a line, piece by piece, and prints them.
 //! - `number`: which number a value of a number type is.
@@ -12,5 +13,6 @@ pub mod bytes;
 pub mod decimal;
 pub mod laws;
 mod number;
+pub mod spelled;
 pub mod text;
 pub mod value;

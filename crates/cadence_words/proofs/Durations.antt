@@ -14,7 +14,7 @@ use Rattle.cadence_words.specs.declared.duration.Unit.TheVariants.{Second, Milli
 use Rattle.cadence_value.proofs.lists.SplitTexts.{cut_once, each_weaker, Passes, Stops}
 use Rattle.cadence_value.proofs.digits.NumberText.{IsNumberByte}
 use Rattle.cadence_value.specs.DenotedNumber.{Denotes}
-use Rattle.cadence_words.proofs.Lowest.{said_bytes, says_once}
+use Rattle.cadence_value.proofs.spelling.Lowest.{said_bytes, says_once}
 use Rattle.cadence_value.specs.Number.{IsDecimal, Number}
 
 first : {xs ys : List ℕ} → xs ≡ ys → get_or xs 0 0 ≡ get_or ys 0 0

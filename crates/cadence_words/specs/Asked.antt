@@ -14,7 +14,7 @@ use Rattle.cadence_words.specs.Finds.{FailsAsWord}
 use Rattle.cadence_errors.specs.declared.input_error.InputError.{InputError}
 use Rattle.cadence_words.specs.declared.word_error.Part.{Part}
 use Rattle.cadence_words.specs.Duration.{IsDurationWord}
-use Rattle.cadence_words.specs.Printed.{SaysDecimal, SaysNumber}
+use Rattle.cadence_value.specs.SpelledNumber.{SaysDecimal, SaysNumber}
 use Rattle.cadence_value.specs.Number.{IsDecimal, Number, numbers_text}
 
 -- whether a list has an element

@@ -6,6 +6,4 @@ pub mod Events
 pub mod Finds
 pub mod Heads
 pub mod Lines
-pub mod Printed
 pub mod TagWords
-pub mod Trimmed

@@ -4,12 +4,9 @@
 //! - `command`: makes the one line for which the words of a command line ask.
 //! - `decimal`: reads decimal numbers in the form of a line.
 //! - `defaults`: what a command line adds to each metric.
-//! - `digits`: the digits of a number, and the number that they and an exponent make.
 //! - `duration`: reads durations.
 //! - `events`: makes the lines of events and service checks from their words.
 //! - `line`: writes the line of a metric from its words.
-//! - `parts`: splits a number into its sign, its digits and its exponent.
-//! - `printed`: reads numbers as tools print them.
 //! - `sample`: lets only a random sample of lines pass.
 //! - `text`: reads the value of a metric, which may be a text.
 //! - `value`: reads the numbers of a value.
@@ -20,12 +17,9 @@
 mod command;
 mod decimal;
 mod defaults;
-mod digits;
 mod duration;
 mod events;
 mod line;
-mod parts;
-mod printed;
 mod sample;
 mod text;
 mod value;
@@ -37,7 +31,6 @@ pub use defaults::Defaults;
 pub use duration::read_duration;
 pub use events::{Fields, read_alert, read_priority};
 pub use line::{write_line_of_text, write_line_of_words};
-pub use printed::read_printed;
 pub use sample::{Chance, SampledReader, Sampler};
 pub use word_error::{Part, WordError};
 pub use words::{is_word, read_tag};

@@ -7,10 +7,10 @@ ghost use Rattle.cadence_words.specs.Asked.{IsValueOf, SaysChange, SaysMember, S
 ghost use Rattle.cadence_words.specs.Finds.{FindsOrFails};
 ghost use Rattle.cadence_words.specs.Heads.{head_of, text_head};
 
-use crate::read_printed;
 use crate::value::read_numbers;
 use crate::word_error::{Part, WordError};
 use cadence_text::line::{MetricType, TextValue, is_member};
+use cadence_value::spelled::read_spelled;
 use cadence_value::value::MetricValue;
 use std::alloc::Allocator;
 
@@ -57,7 +57,7 @@ fn read_member(word: &str) -> Option<TextValue<'_>>
 fn read_change(word: &str) -> Option<TextValue<'_>>
     ensures { Finds (λ h. (h.0 ≡ Gauge) × SaysChange word.now h.1) (option_map text_head result) }
 {
-    let number = read_printed(word)?;
+    let number = read_spelled(word)?;
     Some(TextValue::Change(number))
 }
 

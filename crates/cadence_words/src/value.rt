@@ -6,11 +6,12 @@ ghost use Rattle.cadence_words.specs.Finds.{FindsOrFails};
 ghost use Rattle.cadence_value.specs.Finds.{Finds};
 ghost use Rattle.cadence_value.specs.Values.{numbers_of};
 
+use crate::read_duration;
 use crate::word_error::{Part, WordError};
 use crate::words::split_items;
-use crate::{read_duration, read_printed};
 use cadence_text::line::MetricType;
 use cadence_value::decimal::Decimal;
+use cadence_value::spelled::read_spelled;
 use cadence_value::value::MetricValue;
 use std::alloc::Allocator;
 
@@ -44,7 +45,7 @@ fn allows_several(kind: MetricType) -> bool
 fn read_plain(kind: MetricType, word: &str) -> Option<Decimal>
     ensures { Finds (IsPlainWord kind word.now) result }
 {
-    let number = read_printed(word)?;
+    let number = read_spelled(word)?;
     if !allows_number(kind, number) {
         return None;
     }

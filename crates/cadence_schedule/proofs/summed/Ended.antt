@@ -96,7 +96,7 @@ module _ {W A : Type 0} (kind_of : W → WriterKind) (history_of : W → PacketH
           asked = asked;
           packed =
               packed kind_of history_of settings capacity ending queue policy steps writer first.sink.packing summing.sink.packing new calls.all calls.packs.sends
-              (kept_filled law (kept lines turns) (counts_of_kept calls.all) (held summing.lines.aggregator)
+              (kept_filled (kept lines turns) (counts_of_kept calls.all) (held summing.lines.aggregator)
               (all_filled lines (line_filled law settings) turns) summary) (length steps)
               (omega (arith, no_more_kept (kept lines turns) (counts_of_kept calls.all) (held summing.lines.aggregator) summary, length-kept lines turns, short))
               (omega (arith, few_errors turns calls.all asked, short)) few run replies least bound bytes packets;

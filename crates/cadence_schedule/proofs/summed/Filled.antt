@@ -8,8 +8,7 @@ use Rattle.cadence_aggregate.proofs.Observed.{others-append}
 use Rattle.cadence_aggregating.specs.Past.{Summarizes}
 use Rattle.cadence_aggregating.specs.Printed.{line_saying}
 use Rattle.cadence_aggregating.specs.Says.{LineSays, MetricSays}
-use Rattle.cadence_text.specs.Line.{line_of}
-use Rattle.cadence_text.specs.Metric.{Metric}
+use Rattle.cadence_aggregating.proofs.Saying.{says_some}
 use Rattle.cadence_schedule.proofs.packets.PackedLines.{AreFilled}
 use Rattle.cadence_schedule.proofs.headline.QueuedRun.{texts_filled}
 
@@ -33,32 +32,31 @@ others_filled (line ∷ lines) (unclear l ∷ said) (says, zip) (some, filled) =
 others_filled (line ∷ lines) (other l ∷ said) (says, zip) (some, filled) =
     ((λ none. some (sym says.0 ∙ none)), others_filled lines said zip filled)
 
-module _ (law : (metric : Metric) → 0 < length (line_of metric)) where
-  metric_filled : (line : List ℕ) (said : Sample) → MetricSays line said → line ≢ []
-  metric_filled line said (m, listed, is, says) none = absurd (omega (arith, law m, ap (λ l. length l) is, ap (λ l. length l) none))
+metric_filled : (line : List ℕ) (said : Sample) → MetricSays line said → line ≢ []
+metric_filled line said says none = absurd (omega (arith, says_some line said says, ap (λ l. length l) none))
 
-  sent_filled : (lines : List (List ℕ)) (said : List Sample) → AllZip LineSays lines said → AllFilled (map line_saying (others said)) → AllFilled lines
-  sent_filled [] [] zip filled = tt
-  sent_filled [] (s ∷ said) zip filled = absurd zip
-  sent_filled (line ∷ lines) [] zip filled = absurd zip
-  sent_filled (line ∷ lines) (amount c n ∷ said) (says, zip) filled = (metric_filled line (amount c n) says, sent_filled lines said zip filled)
-  sent_filled (line ∷ lines) (level c v ∷ said) (says, zip) filled = (metric_filled line (level c v) says, sent_filled lines said zip filled)
-  sent_filled (line ∷ lines) (member l ∷ said) (says, zip) filled = (metric_filled line (member l) says, sent_filled lines said zip filled)
-  sent_filled (line ∷ lines) (timing c t ∷ said) (says, zip) filled = (metric_filled line (timing c t) says, sent_filled lines said zip filled)
-  sent_filled (line ∷ lines) (unclear l ∷ said) (says, zip) (some, filled) =
-      ((λ none. some (says.0 ∙ none)), sent_filled lines said zip filled)
-  sent_filled (line ∷ lines) (other l ∷ said) (says, zip) (some, filled) =
-      ((λ none. some (says.0 ∙ none)), sent_filled lines said zip filled)
+sent_filled : (lines : List (List ℕ)) (said : List Sample) → AllZip LineSays lines said → AllFilled (map line_saying (others said)) → AllFilled lines
+sent_filled [] [] zip filled = tt
+sent_filled [] (s ∷ said) zip filled = absurd zip
+sent_filled (line ∷ lines) [] zip filled = absurd zip
+sent_filled (line ∷ lines) (amount c n ∷ said) (says, zip) filled = (metric_filled line (amount c n) says, sent_filled lines said zip filled)
+sent_filled (line ∷ lines) (level c v ∷ said) (says, zip) filled = (metric_filled line (level c v) says, sent_filled lines said zip filled)
+sent_filled (line ∷ lines) (member l ∷ said) (says, zip) filled = (metric_filled line (member l) says, sent_filled lines said zip filled)
+sent_filled (line ∷ lines) (timing c t ∷ said) (says, zip) filled = (metric_filled line (timing c t) says, sent_filled lines said zip filled)
+sent_filled (line ∷ lines) (unclear l ∷ said) (says, zip) (some, filled) =
+    ((λ none. some (says.0 ∙ none)), sent_filled lines said zip filled)
+sent_filled (line ∷ lines) (other l ∷ said) (says, zip) (some, filled) =
+    ((λ none. some (says.0 ∙ none)), sent_filled lines said zip filled)
 
-  pub kept_filled : (accepted : List (List ℕ)) (kept : List (List ℕ × ℕ)) (held : List Sample) → AllFilled accepted → Summarizes accepted (texts_in kept) held
-      → AreFilled kept
-  kept_filled accepted kept held filled (sent, says, (said, zip, sum)) =
-      let rest : others said ≡ others sent ++ others held = sum.rest ∙ others-append sent held in
-      let both : map line_saying (others said) ≡ map line_saying (others sent) ++ map line_saying (others held) =
-      ap (map line_saying) rest ∙ map-append line_saying (others sent) (others held) in
-      let all : AllFilled (map line_saying (others sent)) =
-      front_filled (map line_saying (others sent)) (map line_saying (others held)) (subst AllFilled both (others_filled accepted said zip filled)) in
-      texts_filled kept (sent_filled (texts_in kept) sent says all)
+pub kept_filled : (accepted : List (List ℕ)) (kept : List (List ℕ × ℕ)) (held : List Sample) → AllFilled accepted → Summarizes accepted (texts_in kept) held
+    → AreFilled kept
+kept_filled accepted kept held filled (sent, says, (said, zip, sum)) =
+    let rest : others said ≡ others sent ++ others held = sum.rest ∙ others-append sent held in
+    let both : map line_saying (others said) ≡ map line_saying (others sent) ++ map line_saying (others held) =
+    ap (map line_saying) rest ∙ map-append line_saying (others sent) (others held) in
+    let all : AllFilled (map line_saying (others sent)) =
+    front_filled (map line_saying (others sent)) (map line_saying (others held)) (subst AllFilled both (others_filled accepted said zip filled)) in
+    texts_filled kept (sent_filled (texts_in kept) sent says all)
 
 zip_length : (lines : List (List ℕ)) (said : List Sample) → AllZip LineSays lines said → length lines ≡ length said
 zip_length [] [] zip = omega arith

@@ -51,10 +51,10 @@ abbrev pub parts_of : Metric → List (List ℕ)
 parts_of m = front_of m ∷ kind_text m.kind ∷ last_of m
 
 -- the fields, each with a bar before it
-abbrev barred : List (List ℕ) → List ℕ
+abbrev pub barred : List (List ℕ) → List ℕ
 barred parts = flat_map (λ part. 124 ∷ part) parts
 
-joined-barred : (part : List ℕ) (parts : List (List ℕ)) → join_with_byte 124 (part ∷ parts) ≡ part ++ barred parts
+pub joined-barred : (part : List ℕ) (parts : List (List ℕ)) → join_with_byte 124 (part ∷ parts) ≡ part ++ barred parts
 joined-barred part [] = sym (append-nil part)
 joined-barred part (next ∷ parts) = ap (λ t. part ++ (124 ∷ t)) (joined-barred next parts)
 
@@ -75,7 +75,7 @@ barred-time : (o : Option ℕ) → barred (time_part o) ≡ time_field o
 barred-time (Some t) = append-nil (124 ∷ 84 ∷ decimal_text t)
 barred-time None = refl
 
-barred-last : (m : Metric) → barred (last_of m) ≡ rate_field m.rate ++ (tags_field m.tags ++ (container_field m.container ++ time_field m.time))
+pub barred-last : (m : Metric) → barred (last_of m) ≡ rate_field m.rate ++ (tags_field m.tags ++ (container_field m.container ++ time_field m.time))
 barred-last m =
     let bar = λ (part : List ℕ). 124 ∷ part in
     flat_map-append bar (rate_part m.rate) (tags_part m.tags ++ (container_part m.container ++ time_part m.time))
@@ -171,7 +171,7 @@ keyed_bytes None s hk hs = plain_tag_bytes s hs
 tag_bytes : (a : Tag) → IsClearTag a → AllByRecursion IsNoTagEnd (tag_text a)
 tag_bytes a h = subst (λ t. AllByRecursion IsNoTagEnd t) (sym (key_text-keyed a.key a.text)) (keyed_bytes a.key a.text h.key h.text)
 
-kind_once : (a b : MetricType) → kind_text a ≡ kind_text b → a ≡ b
+pub kind_once : (a b : MetricType) → kind_text a ≡ kind_text b → a ≡ b
 kind_once Counter Counter e = refl
 kind_once Timer Timer e = refl
 kind_once Gauge Gauge e = refl

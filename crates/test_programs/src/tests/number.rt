@@ -1,5 +1,5 @@
 //! Numbers as tools print them, and the texts that are none.
-use cadence_words::read_printed;
+use cadence_value::spelled::read_spelled;
 use std::alloc::Global;
 use std::test::Fail;
 
@@ -20,7 +20,7 @@ const ROWS: &str = "
 
 // Returns whether this number is read from the text.
 fn is_read_as(alloc: Global, text: &str, number: &str) -> Result<bool, Fail> {
-    match read_printed(text) {
+    match read_spelled(text) {
         Some(found) => Ok(format!(in alloc; "{found}")?.as_str() == number),
         None => Ok(number.is_empty()),
     }

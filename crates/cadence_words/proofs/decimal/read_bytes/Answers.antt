@@ -1,4 +1,4 @@
-use Rattle.cadence_words.proofs.Lowest.{said_utf8}
+use Rattle.cadence_value.proofs.spelling.Lowest.{said_utf8}
 use Rattle.cadence_words.proofs.decimal.read_bytes.Goals as goal
 
 pub returns-in_default : goal.returns-in_default

@@ -1,4 +1,4 @@
-use Rattle.cadence_words.proofs.Lowest.{none_said}
+use Rattle.cadence_value.proofs.spelling.Lowest.{none_said}
 use Rattle.cadence_words.proofs.decimal.read_decimal.Goals as goal
 
 pub returns-in_default : goal.returns-in_default

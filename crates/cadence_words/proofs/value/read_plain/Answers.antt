@@ -1,6 +1,6 @@
 use Rattle.std.proofs.Common.{rules, subst}
 use Rattle.cadence_words.specs.Asked.{AllowsNumber}
-use Rattle.cadence_words.proofs.OneReading.{number_once}
+use Rattle.cadence_value.proofs.spelling.OneReading.{number_once}
 use Rattle.cadence_words.proofs.value.read_plain.Goals as goal
 
 pub returns-then-not-allows_number : goal.returns-then-not-allows_number

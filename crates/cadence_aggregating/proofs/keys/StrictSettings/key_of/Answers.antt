@@ -17,7 +17,7 @@ returns-in-Some-clause-key c =
     zero_of_tagged s kind c.args.key.now (string_bytes c.in_ok-from_str.field-0) tags (map choice_of c.in_ok-options_of.field-0.items) line
     c.in_ok-from_str.ensures.ok c.in_ok-options_of.ensures c.in_ok-line.ensures.line in
     let is : IsKeyOfLine line key = subst (λ t. IsKeyOfLine t key) c.deref.ensures (search rules) in
-    key_for s (tagged_call kind c.args.key.now tags) line zero c.line_reads_one_way.ensures key is
+    key_for s (tagged_call kind c.args.key.now tags) line zero key is
 
 pub returns-clause-refused : goal.returns-clause-refused
 returns-clause-refused c =
@@ -29,4 +29,4 @@ returns-clause-refused c =
     zero_of_tagged s kind c.args.key.now (string_bytes c.in_ok-from_str.field-0) tags (map choice_of c.in_ok-options_of.field-0.items) line
     c.in_ok-from_str.ensures.ok c.in_ok-options_of.ensures c.in_ok-line.ensures.line in
     let neither : SaysNeither line = subst SaysNeither c.deref.ensures (search rules) in
-    absurd (does_either s (tagged_call kind c.args.key.now tags) line zero c.line_reads_one_way.ensures c.requires.kind (tags_untimed tags) neither)
+    absurd (does_either s (tagged_call kind c.args.key.now tags) line zero c.requires.kind (tags_untimed tags) neither)

@@ -1,4 +1,3 @@
-use Rattle.cadence_aggregating.specs.Accepted.{lines_of_entries}
 use Rattle.cadence_aggregating.proofs.Records.{none_within}
 use Rattle.cadence_aggregating.proofs.sums.Sums.new.Goals as goal
 
