@@ -1,8 +1,8 @@
 //! Why the line of an event or of a service check was not made.
 //!
 //! A bar ends a field, a comma a tag, and a newline the line. The format has no escape for them, so a text with one of
-//! them would say something else to a server. The test is that of a strict client, which also refuses a colon anywhere but
-//! in the text of a tag with a key.
+//! them would say something else to a server. The test is that of a strict client, which also refuses a colon anywhere
+//! but in the text of a tag with a key.
 ghost use Rattle.std.specs.Prelude.{◌≡◌, map};
 ghost use Rattle.std.specs.List.{list_all};
 ghost use Rattle.std.specs.Option.{option_copied};
@@ -15,8 +15,9 @@ use cadence_settings::{tag_is_clear, text_is_free};
 use cadence_text::line::Tag;
 use std::fmt;
 
-/// Which text can't stand in a line. All but `Message` have a colon, a comma, a bar or a newline. The text of a tag with
-/// a key may have colons.
+/// Which text of an event or of a service check was refused, because no line can have it. Each kind of text but
+/// `Message` is refused if it has a colon, a comma, a bar or a newline. Only the text of a tag with a key may have
+/// colons.
 #[derive(Clone, Copy, Debug, PartialEq, Eq)]
 pub enum Unfit {
     /// The name of a service check.

@@ -11,7 +11,7 @@ use cadence_errors::{InputError, Reason};
 use cadence_text::line::{DraftLine, TextValue};
 use std::alloc::Allocator;
 
-/// Which text of a call with a text as its value can't stand in the line.
+/// Which text of a call was refused, if the value of the call is a text: a member of a set, or a change of a gauge.
 #[derive(Clone, Copy, Debug, PartialEq, Eq)]
 pub enum UnfitText {
     /// The settings are strict, and the key has a colon, a comma, a bar or a newline.

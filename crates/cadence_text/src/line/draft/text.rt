@@ -56,7 +56,7 @@ impl TextValue<'_> {
         }
     }
 
-    /// Returns whether the value can stand in a line: a member has to be one that `is_member` allows.
+    /// Returns whether a line can have this value. It can have each change, and each member that `is_member` allows.
     pub fn is_fit(&self) -> bool
         ensures { IsTrue result ↔ IsFitValue self.now }
     {
@@ -138,8 +138,8 @@ fn written_text<'a, A: Allocator>(
 impl<'a, A: Allocator> DraftLine<'a, A> {
     /// Returns the draft of a line whose value is a text, with tags that are text already and a container, without a
     /// rate and a time. The name is `prefix` and `key`, and the value decides the kind. The draft is written into a
-    /// buffer of the caller's, in place of its text, with room for `more` bytes of further tags. It takes memory only if
-    /// the buffer is too short. The value is not tested, which `is_fit` does.
+    /// buffer of the caller's, in place of its text, with room for `more` bytes of further tags. It takes memory only
+    /// if the buffer is too short. The value is not tested, which `is_fit` does.
     ///
     /// The only error is that memory ran out or that the length passes `usize::MAX`. Then the buffer is freed.
     pub fn of_text(
