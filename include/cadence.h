@@ -10,19 +10,20 @@
  *         if (send(fd, packet, length, 0) >= 0) cadence_sent(&client); else break;
  *     cadence_free(&client);
  *
- * Settings are what each line has: a prefix, default tags, a default container, and whether they are strict. They are
- * texts in memory of the host, so any number of threads and clients may read them at the same time. A client packs the
- * lines of metrics into packets. It starts no thread, takes no lock and opens no socket: the host asks for the oldest
- * finished packet (cadence_next), sends it, and then drops it (cadence_sent). A host that packs lines by itself needs
- * no client: cadence_format_signed and the calls after it write one line each. cadence_event and cadence_service_check
- * keep the lines of events and of service checks, which are packed among those of metrics.
+ * Settings are what each line has: a prefix, default tags, a default container, and whether they refuse or clean the
+ * texts of calls. They are in memory of the host, so any number of threads and clients may read them at the same time.
+ * A client packs the lines of metrics into packets. It starts no thread, takes no lock and opens no socket: the host
+ * asks for the oldest finished packet (cadence_next), sends it, and then drops it (cadence_sent). A host that packs
+ * lines by itself needs no client: cadence_format_signed and the calls after it write one line each. cadence_event and
+ * cadence_service_check keep the lines of events and of service checks, which are packed among those of metrics.
  *
  * Sums (cadence_open_sums) add lines up before a client keeps them: cadence_add_line in place of cadence_line, and then
  * cadence_flush_sums before cadence_flush. With a key (cadence_make_key) a call adds a number up and makes no line:
  * cadence_add_number.
  *
  * The last part of this header has the calls for texts that end with a zero byte: cadence_settings_of,
- * cadence_settings_make, cadence_count, cadence_gauge, cadence_time_millis and others.
+ * cadence_settings_make, cadence_settings_make_cleaned, cadence_count, cadence_gauge, cadence_change, cadence_set_text,
+ * cadence_time_millis and others.
  *
  * What the host must ensure:
  * - Only one call at a time uses a handle, or sums. Give each thread its own, or guard them with a lock. They may move
@@ -41,13 +42,14 @@
  * - cadence_open: CADENCE_INVALID, CADENCE_NO_MEMORY. cadence_open_sums: CADENCE_NO_MEMORY.
  * - cadence_signed, cadence_unsigned, cadence_decimal, cadence_floating, cadence_duration:
  *   - for the values, CADENCE_INVALID if the call is cadence_duration and the kind has no durations, CADENCE_NO_MEMORY
- *     if there is not exactly one value and memory runs out, CADENCE_INVALID if a decimal has over 30 places, or a
- *     double is NaN, infinite or too large;
+ *     if there is not exactly one value and memory runs out, CADENCE_INVALID if a decimal has over 30 places, a double
+ *     is NaN, infinite or too large, or the kind is CADENCE_CHANGE and there is not exactly one value;
  *   - CADENCE_NO_CLIENT;
  *   - for the rest of the call, CADENCE_NOT_UTF8 for the settings and the key, CADENCE_INVALID for the kind,
  *     CADENCE_NOT_UTF8 for the container or a tag, CADENCE_INVALID for the rate, CADENCE_SEPARATOR, CADENCE_NO_MEMORY
  *     for the line;
  *   - CADENCE_FULL, CADENCE_NO_MEMORY for the packet.
+ *   cadence_member: CADENCE_INVALID for the member, and then the same.
  * - cadence_line, cadence_flush, cadence_flush_sums: CADENCE_NO_CLIENT, CADENCE_FULL, CADENCE_NO_MEMORY.
  *   cadence_add_line and cadence_add_number: CADENCE_NO_CLIENT for the sums, then CADENCE_NOT_UTF8 for the line or
  *   CADENCE_INVALID for the key, CADENCE_NO_CLIENT for the handle, CADENCE_FULL, CADENCE_NO_MEMORY.
@@ -59,14 +61,15 @@
  * - cadence_held: CADENCE_NO_CLIENT, CADENCE_TOO_SMALL. cadence_drop_held: CADENCE_NO_CLIENT, CADENCE_FULL.
  * - cadence_counts: CADENCE_NO_CLIENT.
  * - cadence_format_signed, cadence_format_unsigned, cadence_format_decimal, cadence_format_floating,
- *   cadence_format_duration: the above for the values, the above for the rest of the call, CADENCE_TOO_SMALL.
- * - cadence_decimal_of_double, cadence_rounded_of_double: CADENCE_INVALID.
+ *   cadence_format_duration, cadence_format_member: the above for the values or the member, the above for the rest of
+ *   the call, CADENCE_TOO_SMALL.
+ * - cadence_decimal_of_double, cadence_rounded_of_double, cadence_chooses: CADENCE_INVALID.
  * - cadence_destination, cadence_environment_tags, cadence_environment_prefix, cadence_environment_container:
  *   CADENCE_VARIABLE, CADENCE_NO_MEMORY, CADENCE_TOO_SMALL.
  *   cadence_variable_text: CADENCE_INVALID, CADENCE_NO_MEMORY, CADENCE_TOO_SMALL.
- * - cadence_prefix_text: CADENCE_NOT_UTF8, CADENCE_NO_MEMORY, CADENCE_SEPARATOR, CADENCE_TOO_SMALL. cadence_tags_text:
- *   CADENCE_NOT_UTF8, CADENCE_SEPARATOR, CADENCE_NO_MEMORY, CADENCE_TOO_SMALL. cadence_test_text: the first two of
- *   these.
+ * - cadence_prefix_text: CADENCE_NOT_UTF8, CADENCE_NO_MEMORY, CADENCE_SEPARATOR, CADENCE_NO_MEMORY for the cleaned
+ *   prefix, CADENCE_TOO_SMALL. cadence_tags_text: CADENCE_NOT_UTF8, CADENCE_SEPARATOR, CADENCE_NO_MEMORY,
+ *   CADENCE_TOO_SMALL. cadence_test_text: the first two of these. cadence_cleaned_text: all but the second one.
  *
  * Link with libcadence_c.a, which needs only the C library besides, or with libcadence_c.so, which exports only these
  * calls. Both are for Linux on x86-64 with the instructions of x86-64-v2 (SSE4.2).
@@ -115,7 +118,7 @@ enum {
     CADENCE_NO_MEMORY = 2, /* memory ran out */
     CADENCE_FULL = 3,      /* there is no room for the packets that the call makes: send a packet, then try again */
     CADENCE_INVALID = 4,   /* no such kind, policy, key, priority, alert type or status of a service, fewer than 2 packets,
-                              a kind without durations, a bad number */
+                              a kind without durations, a bad number, a text that can't be a member of a set */
     CADENCE_NOT_UTF8 = 5,  /* a text is not UTF-8 */
     CADENCE_NO_PACKET = 6, /* no packet waits */
     CADENCE_TOO_SMALL = 7, /* the buffer is too small: *length is the size that is needed, in bytes */
@@ -138,7 +141,7 @@ enum {
     CADENCE_DROP_OLDEST = 1 /* the client drops its oldest packet and counts it; no call returns CADENCE_FULL */
 };
 
-/* The kinds of metrics. */
+/* The kinds of metrics, and after them the change of a gauge, which stands where a call names a kind. */
 enum {
     CADENCE_COUNTER = 0,
     CADENCE_TIMER = 1, /* in milliseconds */
@@ -146,7 +149,8 @@ enum {
     CADENCE_METER = 3,
     CADENCE_HISTOGRAM = 4,
     CADENCE_SET = 5,
-    CADENCE_DISTRIBUTION = 6
+    CADENCE_DISTRIBUTION = 6,
+    CADENCE_CHANGE = 7 /* a gauge changes by the value, which is printed with its sign, as +3; the call has one value */
 };
 
 /* A decimal number: mantissa divided by 10 to the power of places. At most 30 places are valid. It is printed without
@@ -172,7 +176,11 @@ typedef struct cadence_tag {
  * the container is refused, also if its texts are `known`. The text of a tag with a key may have a ':', because the
  * first one ends the key. The texts of the settings themselves are tested when they are made: cadence_prefix_text and
  * cadence_tags_text test theirs, and cadence_test_text a container. So no text can make, change or split a metric. The
- * line of cadence_line is not tested. */
+ * line of cadence_line is not tested.
+ * If `cleaned` is set, and `strict` isn't, no call is refused for these bytes: each of them is printed as a '_'. The
+ * colons in the text of a tag with a key stay. The texts of the settings are cleaned when they are made:
+ * cadence_prefix_text and cadence_tags_text clean theirs, and cadence_cleaned_text a container. The member of a set,
+ * and the texts of an event or of a service check are never cleaned. If both are set, the settings are strict. */
 typedef struct cadence_settings {
     const uint8_t *prefix;
     size_t prefix_len;
@@ -182,17 +190,18 @@ typedef struct cadence_settings {
     size_t container_len;
     bool contained;
     bool strict;
+    bool cleaned;
 } cadence_settings;
 
-/* Settings that add nothing, and that are not strict. */
-#define CADENCE_NO_SETTINGS { CADENCE_NULL, 0, CADENCE_NULL, 0, CADENCE_NULL, 0, false, false }
+/* Settings that add nothing, and that neither refuse nor clean the texts of calls. */
+#define CADENCE_NO_SETTINGS { CADENCE_NULL, 0, CADENCE_NULL, 0, CADENCE_NULL, 0, false, false, false }
 
 /* What a call adds to its metric. The tags come after the default ones. If `contained` is set, the container replaces
  * the default one. If `rated` is set, the metric has a sampling rate. If `timed` is set, it has a time, in the unit
  * that the server reads (seconds for DogStatsD). No call samples: each one keeps its line, and the server scales by the
- * rate. Texts are printed as they are, with any separators in them, unless the settings are strict. If `known` is set,
- * the host must ensure that all texts of the call are UTF-8: its key, and those of the options and the settings. They
- * are then not tested for that. Otherwise each is tested once. */
+ * rate. Texts are printed as they are, with any separators in them, unless the settings are strict or cleaned. If
+ * `known` is set, the host must ensure that all texts of the call are UTF-8: its key, and those of the options and the
+ * settings. They are then not tested for that. Otherwise each is tested once. */
 typedef struct cadence_options {
     const cadence_tag *tags;
     size_t tags_len;
@@ -327,18 +336,24 @@ uint32_t cadence_floating(cadence_handle *handle, const cadence_settings *settin
 uint32_t cadence_duration(cadence_handle *handle, const cadence_settings *settings, uint32_t kind, const uint8_t *key,
                           size_t key_len, const uint64_t *nanos, size_t nanos_len, const cadence_options *options);
 
+/* Keeps a metric of a set whose value is a text, as "alice". The member is printed as it is, also if the settings are
+ * strict or cleaned. It has to be UTF-8 and not empty, and has no ':', '|' or newline, because each of these would end
+ * it; otherwise the call returns CADENCE_INVALID. The rest is as in the five calls above. */
+uint32_t cadence_member(cadence_handle *handle, const cadence_settings *settings, const uint8_t *key, size_t key_len,
+                        const uint8_t *member, size_t member_len, const cadence_options *options);
+
 /* Keeps a line that the host has made, without testing its bytes. The line is packed like the lines of the calls above.
  * Returns CADENCE_OK, CADENCE_NO_CLIENT, CADENCE_NO_MEMORY or CADENCE_FULL. */
 uint32_t cadence_line(cadence_handle *handle, const uint8_t *line, size_t line_len);
 
 /* These two calls keep the line of an event or of a service check, which is packed like that of a metric. It has the
- * default tags and the default container of the settings, and no prefix. Sums never get it. The grammar of DogStatsD has
- * no escape for a separator, so a text that can't stand in the line is refused, also if the settings are not strict. The
- * texts of the settings are not tested for that: they are tested when they are made, if the settings are strict. Texts
- * are always tested for UTF-8. They return CADENCE_OK, CADENCE_NO_CLIENT, CADENCE_NOT_UTF8 for a text of the settings or
- * of the struct, CADENCE_INVALID for the priority, the alert type or the status of the service, CADENCE_UNFIT_HOST or
- * another CADENCE_UNFIT_ for the text that can't stand in the line, CADENCE_NO_MEMORY or CADENCE_FULL. If it is not
- * CADENCE_OK, nothing of the line is kept. */
+ * default tags and the default container of the settings, and no prefix. Sums never get it. The grammar of DogStatsD
+ * has no escape for a separator, so a text that can't stand in the line is refused, whether the settings are strict,
+ * cleaned or neither. The texts of the settings are not tested for that: they are tested when they are made, if the
+ * settings are strict. Texts are always tested for UTF-8. They return CADENCE_OK, CADENCE_NO_CLIENT, CADENCE_NOT_UTF8
+ * for a text of the settings or of the struct, CADENCE_INVALID for the priority, the alert type or the status of the
+ * service, CADENCE_UNFIT_HOST or another CADENCE_UNFIT_ for the text that can't stand in the line, CADENCE_NO_MEMORY or
+ * CADENCE_FULL. If it is not CADENCE_OK, nothing of the line is kept. */
 uint32_t cadence_event(cadence_handle *handle, const cadence_settings *settings, const cadence_event_data *event);
 uint32_t cadence_service_check(cadence_handle *handle, const cadence_settings *settings,
                                const cadence_check_data *check);
@@ -410,11 +425,11 @@ uint32_t cadence_add_number(cadence_sums *sums, cadence_handle *handle, size_t k
  * CADENCE_DROP_OLDEST the client drops packets of a large flush, if it makes more packets than may wait. */
 uint32_t cadence_flush_sums(cadence_sums *sums, cadence_handle *handle);
 
-/* These five calls write one line into `out`, without a newline, and set *length to its length in bytes. They need no
+/* These six calls write one line into `out`, without a newline, and set *length to its length in bytes. They need no
  * client and share nothing but the settings, which they only read, so threads may make them at the same time. They
  * return CADENCE_OK; CADENCE_TOO_SMALL, with the length of the line in *length; or CADENCE_NOT_UTF8, CADENCE_INVALID,
  * CADENCE_SEPARATOR or CADENCE_NO_MEMORY, with *length 0. cadence_format_floating prints doubles like cadence_floating,
- * and cadence_format_duration prints durations like cadence_duration. */
+ * cadence_format_duration durations like cadence_duration, and cadence_format_member a member like cadence_member. */
 uint32_t cadence_format_signed(const cadence_settings *settings, uint32_t kind, const uint8_t *key, size_t key_len,
                                const int64_t *values, size_t values_len, const cadence_options *options, uint8_t *out,
                                size_t out_len, size_t *length);
@@ -430,23 +445,33 @@ uint32_t cadence_format_floating(const cadence_settings *settings, uint32_t kind
 uint32_t cadence_format_duration(const cadence_settings *settings, uint32_t kind, const uint8_t *key, size_t key_len,
                                  const uint64_t *nanos, size_t nanos_len, const cadence_options *options, uint8_t *out,
                                  size_t out_len, size_t *length);
+uint32_t cadence_format_member(const cadence_settings *settings, const uint8_t *key, size_t key_len,
+                               const uint8_t *member, size_t member_len, const cadence_options *options, uint8_t *out,
+                               size_t out_len, size_t *length);
 
 /* Writes what each name of a prefix begins with into `out`, and sets *length to its length in bytes: nothing if the
  * prefix is empty, and otherwise the prefix with exactly one dot at its end. If `strict` is set, a prefix with a
- * separator is refused. Needs no client. Returns CADENCE_OK; CADENCE_TOO_SMALL, with the length of the text in *length;
- * or CADENCE_NOT_UTF8, CADENCE_SEPARATOR or CADENCE_NO_MEMORY, with *length 0. */
-uint32_t cadence_prefix_text(const uint8_t *prefix, size_t prefix_len, bool strict, uint8_t *out, size_t out_len,
-                             size_t *length);
+ * separator is refused. Otherwise, if `is_cleaned` is set, each separator is a '_'. Needs no client. Returns
+ * CADENCE_OK; CADENCE_TOO_SMALL, with the length of the text in *length; or CADENCE_NOT_UTF8, CADENCE_SEPARATOR or
+ * CADENCE_NO_MEMORY, with *length 0. */
+uint32_t cadence_prefix_text(const uint8_t *prefix, size_t prefix_len, bool strict, bool is_cleaned, uint8_t *out,
+                             size_t out_len, size_t *length);
 
 /* Writes the text of default tags into `out`, in the form in which a line has them, and sets *length to its length in
- * bytes. If `strict` is set, tags with a separator are refused, other than a ':' after a key. It returns what
+ * bytes. If `strict` is set, tags with a separator are refused, other than a ':' after a key. Otherwise, if
+ * `is_cleaned` is set, each separator in a key or a text is a '_', other than a ':' after a key. It returns what
  * cadence_prefix_text returns. */
-uint32_t cadence_tags_text(const cadence_tag *tags, size_t tags_len, bool strict, uint8_t *out, size_t out_len,
-                           size_t *length);
+uint32_t cadence_tags_text(const cadence_tag *tags, size_t tags_len, bool strict, bool is_cleaned, uint8_t *out,
+                           size_t out_len, size_t *length);
 
 /* Tests a text, as a default container of strict settings. Returns CADENCE_OK; CADENCE_NOT_UTF8; or CADENCE_SEPARATOR
  * if the text has a ':', a ',', a '|' or a newline. */
 uint32_t cadence_test_text(const uint8_t *text, size_t text_len);
+
+/* Writes a cleaned text into `out`, as a default container of cleaned settings, and sets *length to its length in bytes,
+ * which is that of the text. Each ':', ',', '|' and newline is a '_'. Needs no client. Returns CADENCE_OK;
+ * CADENCE_TOO_SMALL, with that length; or CADENCE_NOT_UTF8 or CADENCE_NO_MEMORY, with *length 0. */
+uint32_t cadence_cleaned_text(const uint8_t *text, size_t text_len, uint8_t *out, size_t out_len, size_t *length);
 
 /* Sets *number to the decimal as which cadence_floating prints the double in a gauge, for a host that needs the number,
  * as for a sampling rate. Needs no client. Returns CADENCE_OK, or CADENCE_INVALID with *number unchanged, if
@@ -456,6 +481,11 @@ uint32_t cadence_decimal_of_double(double value, cadence_decimal_number *number)
 
 /* The same, with the decimal as which cadence_floating prints the double in a timer. */
 uint32_t cadence_rounded_of_double(double value, cadence_decimal_number *number);
+
+/* Sets *chosen to whether a call of a sample is made: with this chance, if `draw` is a random number of 64 bits. The chance is
+ * above 0 and at most 1, with at most 18 places. It is then the rate of the call, so that the server scales. Needs no
+ * client. Returns CADENCE_OK, or CADENCE_INVALID with *chosen unchanged if the number is no chance. */
+uint32_t cadence_chooses(const cadence_decimal_number *chance, uint64_t draw, bool *chosen);
 
 /* The values of the variables of the environment: DD_DOGSTATSD_URL, DD_DOGSTATSD_SOCKET, DD_AGENT_HOST,
  * DD_DOGSTATSD_PORT, STATSD_HOST, STATSD_PORT, DD_ENV, DD_SERVICE, DD_VERSION, DD_TAGS, DD_ENTITY_ID,
@@ -548,7 +578,7 @@ static inline const char *cadence_status_text(uint32_t status) {
     case CADENCE_NO_CLIENT: return "the client is closed (CADENCE_NO_CLIENT)";
     case CADENCE_NO_MEMORY: return "out of memory (CADENCE_NO_MEMORY)";
     case CADENCE_FULL: return "too many packets wait: send them, then try again (CADENCE_FULL)";
-    case CADENCE_INVALID: return "an unknown kind, policy, key or the like, or a number out of range (CADENCE_INVALID)";
+    case CADENCE_INVALID: return "an unknown kind, policy, key or the like, or a value out of range (CADENCE_INVALID)";
     case CADENCE_NOT_UTF8: return "a text is not UTF-8 (CADENCE_NOT_UTF8)";
     case CADENCE_NO_PACKET: return "no packet waits (CADENCE_NO_PACKET)";
     case CADENCE_TOO_SMALL: return "the buffer is too small (CADENCE_TOO_SMALL)";
@@ -626,6 +656,48 @@ static inline cadence_settings cadence_settings_of_dotted(const char *text, size
  * at its end or without one, as "my.service". Another text does not compile: cadence_settings_make takes it. */
 #define cadence_settings_of(prefix) cadence_settings_of_dotted(prefix ".", sizeof(prefix))
 
+/* Makes the container of settings: it is tested if they are strict, and written into `room` if they are cleaned. */
+static inline uint32_t cadence_settings_contain(cadence_settings *settings, const char *container, uint8_t *room,
+                                                size_t room_len) {
+    settings->container = CADENCE_BYTES(container);
+    settings->container_len = cadence_length_of(container);
+    settings->contained = container != CADENCE_NULL;
+    if (settings->contained && settings->strict) return cadence_test_text(settings->container, settings->container_len);
+    if (!settings->contained || !settings->cleaned) return CADENCE_OK;
+    settings->container = room;
+    return cadence_cleaned_text(CADENCE_BYTES(container), cadence_length_of(container), room, room_len,
+                                &settings->container_len);
+}
+
+/* Makes settings, as cadence_settings_make and cadence_settings_make_cleaned do. */
+static inline uint32_t cadence_settings_make_as(cadence_settings *settings, const char *prefix, const cadence_tag *tags,
+                                                size_t tags_len, const char *container, bool strict, bool is_cleaned,
+                                                uint8_t *room, size_t room_len, size_t *needed) {
+    cadence_settings made = CADENCE_NO_SETTINGS;
+    made.strict = strict;
+    made.cleaned = is_cleaned;
+    *needed = 0;
+    uint32_t status = cadence_prefix_text(CADENCE_BYTES(prefix), cadence_length_of(prefix), strict, is_cleaned, room,
+                                          room_len, &made.prefix_len);
+    bool fits = status == CADENCE_OK;
+    if (!fits && status != CADENCE_TOO_SMALL) return status;
+    made.prefix = room;
+    if (fits && made.prefix_len != 0) room += made.prefix_len;
+    room_len = fits ? room_len - made.prefix_len : 0;
+    made.tags = room;
+    status = cadence_tags_text(tags, tags_len, strict, is_cleaned, room, room_len, &made.tags_len);
+    if (status != CADENCE_OK && status != CADENCE_TOO_SMALL) return status;
+    fits = fits && status == CADENCE_OK;
+    if (fits && made.tags_len != 0) room += made.tags_len;
+    room_len = fits ? room_len - made.tags_len : 0;
+    status = cadence_settings_contain(&made, container, room, room_len);
+    if (status != CADENCE_OK && status != CADENCE_TOO_SMALL) return status;
+    *needed = made.prefix_len + made.tags_len + (is_cleaned ? made.container_len : 0);
+    if (!fits || status != CADENCE_OK) return CADENCE_TOO_SMALL;
+    *settings = made;
+    return CADENCE_OK;
+}
+
 /* Makes settings of a prefix, default tags, a default container, which may be null, and whether they are strict. The
  * prefix gets a dot at its end if it has none. The texts are in `room`, and the settings point there and to the
  * container, so keep both alive. Sets *needed to how many bytes of room the texts need. Returns CADENCE_OK; the status of
@@ -633,29 +705,15 @@ static inline cadence_settings cadence_settings_of_dotted(const char *text, size
 static inline uint32_t cadence_settings_make(cadence_settings *settings, const char *prefix, const cadence_tag *tags,
                                              size_t tags_len, const char *container, bool strict, uint8_t *room,
                                              size_t room_len, size_t *needed) {
-    cadence_settings made = CADENCE_NO_SETTINGS;
-    uint32_t status =
-        cadence_prefix_text(CADENCE_BYTES(prefix), cadence_length_of(prefix), strict, room, room_len, &made.prefix_len);
-    const bool fits = status == CADENCE_OK;
-    *needed = 0;
-    if (!fits && status != CADENCE_TOO_SMALL) return status;
-    made.prefix = room;
-    if (fits && made.prefix_len != 0) room += made.prefix_len;
-    made.tags = room;
-    status = cadence_tags_text(tags, tags_len, strict, room, fits ? room_len - made.prefix_len : 0, &made.tags_len);
-    if (status != CADENCE_OK && status != CADENCE_TOO_SMALL) return status;
-    made.container = CADENCE_BYTES(container);
-    made.container_len = cadence_length_of(container);
-    made.contained = container != CADENCE_NULL;
-    made.strict = strict;
-    if (strict && made.contained) {
-        const uint32_t tested = cadence_test_text(made.container, made.container_len);
-        if (tested != CADENCE_OK) return tested;
-    }
-    *needed = made.prefix_len + made.tags_len;
-    if (!fits || status != CADENCE_OK) return CADENCE_TOO_SMALL;
-    *settings = made;
-    return CADENCE_OK;
+    return cadence_settings_make_as(settings, prefix, tags, tags_len, container, strict, false, room, room_len, needed);
+}
+
+/* Makes settings that clean the texts of calls. Their own texts are cleaned too, and all of them are in `room`, also the
+ * container. The rest is as in cadence_settings_make, but no text is refused for a separator. */
+static inline uint32_t cadence_settings_make_cleaned(cadence_settings *settings, const char *prefix,
+                                                     const cadence_tag *tags, size_t tags_len, const char *container,
+                                                     uint8_t *room, size_t room_len, size_t *needed) {
+    return cadence_settings_make_as(settings, prefix, tags, tags_len, container, false, true, room, room_len, needed);
 }
 
 /* Keeps a metric of one whole number, like cadence_signed. */
@@ -703,6 +761,68 @@ static inline uint32_t cadence_double(cadence_handle *handle, const cadence_sett
 static inline uint32_t cadence_time_nanos(cadence_handle *handle, const cadence_settings *settings, const char *key,
                                           int64_t nanos, const cadence_options *options) {
     return cadence_parts(handle, settings, CADENCE_TIMER, key, nanos, 6, options);
+}
+
+/* Keeps a metric of a set whose value is a text, like cadence_member. */
+static inline uint32_t cadence_set_text(cadence_handle *handle, const cadence_settings *settings, const char *key,
+                                        const char *member, const cadence_options *options) {
+    const cadence_options none = CADENCE_NO_OPTIONS;
+    const cadence_settings nothing = CADENCE_NO_SETTINGS;
+    return cadence_member(handle, settings != CADENCE_NULL ? settings : &nothing, CADENCE_BYTES(key),
+                          cadence_length_of(key), CADENCE_BYTES(member), cadence_length_of(member),
+                          options != CADENCE_NULL ? options : &none);
+}
+
+/* How many bytes the two lines of a gauge below 0 may have. */
+enum { CADENCE_LEVEL_BYTES = 2048 };
+
+/* Writes the line that sets a gauge to 0, and a newline, into the first bytes of `lines`. */
+static inline uint32_t cadence_zero_line(const cadence_settings *settings, const char *key,
+                                         const cadence_options *options, uint8_t *lines, size_t *length) {
+    const int64_t zero = 0;
+    const uint32_t status =
+        cadence_format_signed(settings, CADENCE_GAUGE, CADENCE_BYTES(key), cadence_length_of(key), &zero, 1, options,
+                              lines, CADENCE_LEVEL_BYTES - 1, length);
+    if (status == CADENCE_OK) lines[(*length)++] = '\n';
+    return status;
+}
+
+/* Sets a gauge to a whole number, also to one below 0. A server reads a value with a sign as a change of the gauge, so a
+ * gauge below 0 is set to 0 first. The client keeps both lines as one text, with a newline between them, so they are in the
+ * same packet or not sent at all. Returns what cadence_signed returns; or CADENCE_TOO_SMALL, with nothing kept, if two
+ * lines have more than CADENCE_LEVEL_BYTES bytes. */
+static inline uint32_t cadence_level_whole(cadence_handle *handle, const cadence_settings *settings, const char *key,
+                                           int64_t value, const cadence_options *options) {
+    const cadence_options none = CADENCE_NO_OPTIONS;
+    const cadence_settings nothing = CADENCE_NO_SETTINGS;
+    uint8_t lines[CADENCE_LEVEL_BYTES];
+    size_t zero, length;
+    if (value >= 0) return cadence_whole(handle, settings, CADENCE_GAUGE, key, value, options);
+    if (settings == CADENCE_NULL) settings = &nothing;
+    if (options == CADENCE_NULL) options = &none;
+    uint32_t status = cadence_zero_line(settings, key, options, lines, &zero);
+    if (status == CADENCE_OK)
+        status = cadence_format_signed(settings, CADENCE_GAUGE, CADENCE_BYTES(key), cadence_length_of(key), &value, 1,
+                                       options, lines + zero, CADENCE_LEVEL_BYTES - zero, &length);
+    return status != CADENCE_OK ? status : cadence_line(handle, lines, zero + length);
+}
+
+/* Sets a gauge to a double, also to one below 0, in the same way. Returns what cadence_floating returns, or
+ * CADENCE_TOO_SMALL. */
+static inline uint32_t cadence_level_double(cadence_handle *handle, const cadence_settings *settings, const char *key,
+                                            double value, const cadence_options *options) {
+    const cadence_options none = CADENCE_NO_OPTIONS;
+    const cadence_settings nothing = CADENCE_NO_SETTINGS;
+    uint8_t lines[CADENCE_LEVEL_BYTES];
+    size_t zero, length;
+    if (!(value < 0)) return cadence_double(handle, settings, CADENCE_GAUGE, key, value, options);
+    if (settings == CADENCE_NULL) settings = &nothing;
+    if (options == CADENCE_NULL) options = &none;
+    uint32_t status = cadence_zero_line(settings, key, options, lines, &zero);
+    if (status == CADENCE_OK)
+        status = cadence_format_floating(settings, CADENCE_GAUGE, CADENCE_BYTES(key), cadence_length_of(key), &value, 1,
+                                         options, lines + zero, CADENCE_LEVEL_BYTES - zero, &length);
+    return status != CADENCE_OK ? status : cadence_line(handle, lines, zero + length);
 }
 
 /* Keeps a line that the host has made, like cadence_line. */
@@ -846,12 +966,14 @@ static inline uint32_t cadence_integer(cadence_handle *handle, const cadence_set
 #endif
 
 /* These keep a metric of one number, an integer of up to 64 bits or (from C11 and in C++) a double. Each returns what
- * cadence_floating returns. cadence_count adds to a counter, cadence_gauge sets a gauge, cadence_time_millis keeps a
- * time in milliseconds with up to six places of a double, and cadence_distribute adds a value to a distribution. Many
- * servers read a gauge below 0 as a change of the gauge. */
+ * cadence_floating returns. cadence_count adds to a counter, cadence_gauge sets a gauge, cadence_change changes a gauge
+ * by the number, cadence_time_millis keeps a time in milliseconds with up to six places of a double, and
+ * cadence_distribute adds a value to a distribution. Many servers read a gauge below 0 as a change of the gauge:
+ * cadence_level_whole and cadence_level_double set it. */
 #ifdef __cplusplus
 CADENCE_KEEPS(cadence_count, CADENCE_COUNTER)
 CADENCE_KEEPS(cadence_gauge, CADENCE_GAUGE)
+CADENCE_KEEPS(cadence_change, CADENCE_CHANGE)
 CADENCE_KEEPS(cadence_time_millis, CADENCE_TIMER)
 CADENCE_KEEPS(cadence_distribute, CADENCE_DISTRIBUTION)
 #undef CADENCE_KEEPS
@@ -860,6 +982,8 @@ CADENCE_KEEPS(cadence_distribute, CADENCE_DISTRIBUTION)
     cadence_number(handle, settings, CADENCE_COUNTER, key, value, options)
 #define cadence_gauge(handle, settings, key, value, options)                                                           \
     cadence_number(handle, settings, CADENCE_GAUGE, key, value, options)
+#define cadence_change(handle, settings, key, value, options)                                                          \
+    cadence_number(handle, settings, CADENCE_CHANGE, key, value, options)
 #define cadence_time_millis(handle, settings, key, value, options)                                                     \
     cadence_number(handle, settings, CADENCE_TIMER, key, value, options)
 #define cadence_distribute(handle, settings, key, value, options)                                                      \

@@ -186,12 +186,12 @@ def whole_number(text):
 
 def is_added(said):
     """Returns whether a line is that of a counter, a gauge or a set that is added to others. One with a time is not, and
-    neither is one whose name begins as that of an event."""
+    neither is one whose name begins as that of an event, nor a counter or a gauge with several values."""
     if '|T' in said['fields'] or said['name'].startswith('_e{') and ',' in said['name']:
         return False
     if said['kind'] == 'c':
         return whole_number(said['values']) is not None
-    return said['kind'] == 's' or said['kind'] == 'g' and all(map(number, said['values'].split(':')))
+    return said['kind'] == 's' or said['kind'] == 'g' and number(said['values']) is not None
 
 
 def text_of(word):

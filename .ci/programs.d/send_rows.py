@@ -61,6 +61,14 @@ SEND_CASES = [
      error_lines(b'line 1: ' + WANTS_KIND, b'line 2: ' + WANTS_KIND, b'2 of 3 lines: cannot read')),
     ('malformed tags, printed', ['--print', *ONE], {'DD_TAGS': 'a|b'}, b'', 2, b'',
      error_lines(f"DD_TAGS wants {WANTED['DD_TAGS']}".encode())),
+    ('malformed tags, cleaned', ['--print', '--clean', *ONE], {
+        'DD_ENTITY_ID': ',', 'DD_TAGS': 'a|b,k\nl:v|w:x', 'DD_VERSION': 'a\nb', 'DD_SERVICE': 'a|b', 'DD_ENV': 'a,b'}, b'', 0,
+     report_line(b'visits:1|c|#env:a_b,service:a_b,version:a_b,a_b,k_l:v_w:x,dd.internal.entity_id:_,page:home\n'), b''),
+    *[(f'{name} is {text}, cleaned', ['--print', '--clean', *ONE], {name: text}, b'', 2, b'', error_lines(f'{name} wants {WANTED[name]}'.encode()))
+      for name, text in [('DD_TAGS', ':v'), ('DD_TAGS', b'\xff'), ('DD_ENV', b'\xff')]],
+    ('cleaned lines', ['--print', '--clean'], {'DD_TAGS': 'url:http://x'}, b'c a:b 1\n g  c,d +1  k|l:v  m,:n:| \ns e a|b\nc f 1\n', 2,
+     report_line(b'a_b:1|c|#url:http://x\nc_d:+1|g|#url:http://x,k_l:v,m_:n:_\nf:1|c|#url:http://x\n'),
+     error_lines(b'line 3: ' + WANTS_VALUES['s'], b'1 of 4 lines: cannot read')),
     ('strict words', ['--print', '--strict', *ONE], {'DD_TAGS': 'k:v,w'}, b'', 0, report_line(b'visits:1|c|#k:v,w,page:home\n'), b''),
     *[(f'the strict words {words}', ['--strict', '--print', *words], {}, b'', 2, b'', error_lines(why)) for words, why in [
         (['c', 'a:b', '1'], WANTS_NAME), (['c', 'a,b', '1'], WANTS_NAME), (['c', 'a|b', '1'], WANTS_NAME),
@@ -119,6 +127,12 @@ SEND_CASES = [
      report_line(b'longer.name:1|c') + report_line(b'a:4|c\nb:2|c\n'), error_lines(b'line 3: ' + WANTS_WORDS, b'1 of 5 lines: cannot read')),
     ('a decrement between added gauges', ['--print', '--aggregate'], {}, b'g load 1\nc a 1\ng load 5\ng load -3\ng load 2\nc a 1', 0,
      report_line(b'load:5|g\nload:-3|g\na:2|c\nload:2|g\n'), b''),
+    ('a gauge set below 0 between added gauges', ['--print', '--aggregate'], {}, b'g load 1\ng load =3\nc a 1\ng load =-3\ng load 2\nc a 1', 0,
+     report_line(b'load:3|g\nload:0|g\nload:-3|g\na:2|c\nload:2|g\n'), b''),
+    ('a gauge set below 0, whose two lines fit no packet', ['--print', '--capacity', '12'], {}, b'c a 1\ng b =-5\nc a 2\n', 0,
+     report_line(b'a:1|c\n') + report_line(b'b:0|g\nb:-5|g') + report_line(b'a:2|c\n'), b''),
+    ('a gauge set below 0, whose two lines fit the next packet', ['--print', '--capacity', '16'], {}, b'c a 1\ng b =-5\n', 0,
+     report_line(b'a:1|c\n') + report_line(b'b:0|g\nb:-5|g\n'), b''),
     ('added lines with colons in the text of a tag', ['--print', '--aggregate'], {'DD_TAGS': 'image:nginx:1.25'}, b'c a 1\nc a 2\n', 0,
      report_line(b'a:3|c|#image:nginx:1.25\n'), b''),
     ('lines with a time, which are not added up', ['--print', '--aggregate', '--time', '7'], {}, b'c a 1\nc a 1', 0,

@@ -20,7 +20,7 @@ NO_HOST = 'a' * 64
 EVENT_FIELDS = ('--host web-1 --aggregation-key deploy --priority low --source jenkins --alert success --time 7 --tag k:v'
                 ' --container id').split()
 EACH = '--prefix p --tag k:v --tag w --container id --time +.7e1 --rate 5e-1'.split()
-OPTIONS = (b'--to --prefix --tag --container --time --rate --sample --capacity --flush-every --aggregate --wait --drop --strict '
+OPTIONS = (b'--to --prefix --tag --container --time --rate --sample --capacity --flush-every --aggregate --wait --drop --strict --clean '
            b'--print --help --version --host --aggregation-key --priority --source --alert --message').split()
 WANTS_WORDS = b'wants KIND NAME VALUE [TAG ..], as in `c visits 1 page:home`'
 WANTS_KIND = b'KIND is c, ms, g, m, h, s, d or the name of one, as in `count visits 1`'
@@ -28,7 +28,7 @@ WANTS_NAME = b'NAME has no colon, comma, bar or newline, as in `c site.visits 1`
 WANTS_VALUES = {
     'c': b'VALUE of c is a whole number, as in `c visits 1`',
     'ms': b'VALUE of ms is milliseconds from 0, or durations, as in `ms wait 12.5,1.25s`',
-    'g': b'VALUE of g is a number, or a change as +5, as in `g load 0.75`',
+    'g': b'VALUE of g is a number, a change as +5, or a level as =-5, as in `g load 0.75`',
     'm': b'VALUE of m is a whole number from 0, as in `m requests 1`',
     'h': b'VALUE of h is numbers, or durations, which are sent in nanoseconds, as in `h size 0.75,12`',
     's': b'VALUE of s has no colon, bar or newline, as in `s users alice`',
@@ -92,6 +92,8 @@ UNUSABLE = [
     (['c', 'visits', 'one'], WANTS_VALUES['c']),
     (['g', 'load', '-1one'], WANTS_VALUES['g']),
     (['g', 'load', '+one'], WANTS_VALUES['g']),
+    *[(['g', 'load', level], WANTS_VALUES['g']) for level in ['=', '==5', '=one', '=+', '=1,2', '=-1,-2', '=5s', '= 5', '=-']],
+    *[([kind, 'load', '=5'], WANTS_VALUES[kind]) for kind in ['c', 'ms', 'm', 'h', 'd']],
     *[(['s', 'users', member], WANTS_VALUES['s']) for member in ['', 'a:b', 'a|b', 'a\nb']],
     (['c', 'visits', '1', 'a,b'], WANTS_TAG),
     (['c', b'\xff', '1'], b'a word of the command line is ' + WANTS_TEXT),
@@ -100,6 +102,11 @@ UNUSABLE = [
     *[(['check', 'web', status], WANTS_STATUS) for status in ['OK', '4', '-1', '', '00', 'warn']],
     *[(['check', name, 'ok'], WANTS_NAME) for name in ['', 'a:b', 'a,b', 'a|b', 'a\nb']],
     (['event', 'a', 'b', 'k:v|w'], WANTS_TAG),
+    *[(['--clean', *words], why) for words, why in [
+        (['event', 'a', 'b', 'k:v|w'], WANTS_TAG), (['check', 'a:b', 'ok'], WANTS_NAME), (['c', '', '1'], WANTS_NAME),
+        (['c', 'a', '1', ''], WANTS_TAG), (['s', 'users', 'a|b'], WANTS_VALUES['s']),
+        (['--tag', '', *ONE], b'--tag : wants K:V or V, as in --tag env:live'),
+        (['--prefix', '', *ONE], b'--prefix : wants a name without colons, commas and bars, as in --prefix my.service')]],
     (['check', 'a', 'ok', 'k,v'], WANTS_TAG),
     *[(['--host', host, *EVENT], b'--host %s: wants a name without colons, commas, bars and newlines, as in --host web-1' % host.encode())
       for host in ['', 'a:b', 'a,b', 'a|b', 'a\nb']],
@@ -125,12 +132,17 @@ STRAY = [
     ([*ONE, '--stict'], b"a similar argument exists: '--strict'"),
     ([*ONE, '-x'], b"unexpected argument '-x' found"),
     (['--rate', '0.5', '--sample', '0.5', *ONE], b"cannot be used with"),
+    (['--strict', '--clean', *ONE], b"cannot be used with"),
     (['--to'], b"a value is required for '--to <HOST:PORT>'"),
 ]
 # Words, and the line that is printed for them.
 WRITTEN = [
     (['c', 'a', '1', '--prefix', 'p', 't', '--tag=k:v'], b'p.a:1|c|#k:v,t\n'),
     (['--prefix=p', 'c', 'a', '1'], b'p.a:1|c\n'),
+    (['--clean', '--clean', *ONE], ONE_SENT),
+    (['c', 'x:y|z', '1', 'new,1:a|b:c\n', 'w|', ' ,', '--container', 'c:d', '--tag', 'k,1:v:w|x', '--tag', '|', '--prefix', 'a|b', '--clean'],
+     b'a_b.x_y_z:1|c|#k_1:v:w_x,_,new_1:a_b:c_,w_, _|c:c_d\n'),
+    (['--clean', '--tag', 'k|l:v', 'event', 'a', 'b'], b'_e{1,1}:a|b|#k_l:v\n'),
     (['--to', 'host:1', '--to', 'unix:/nowhere', '--strict', '--strict', *ONE], ONE_SENT),
     (['c', 'a', '1', '--', '--prefix', '-1'], b'a:1|c|#--prefix,-1\n'),
     (['g', 'load', '-1.5'], b'load:-1.5|g\n'),
@@ -139,6 +151,15 @@ WRITTEN = [
     (['g', 'load', '-.5e1'], b'load:-5|g\n'),
     (['g', 'load', '+3'], b'load:+3|g\n'),
     (['g', 'load', '+.50e1'], b'load:+5|g\n'),
+    (['g', 'load', '=5'], b'load:5|g\n'),
+    (['gauge', 'load', '=+.50e1', 't'], b'load:5|g|#t\n'),
+    (['g', 'load', '=0.5'], b'load:0.5|g\n'),
+    (['g', 'load', '=-0.0'], b'load:0|g\n'),
+    (['g', 'load', '=-5'], b'load:0|g\nload:-5|g\n'),
+    ([*EACH, 'gauge', 'load', '=-.5', 't'], b'p.load:0|g|@0.5|#k:v,w,t|c:id|T7\np.load:-0.5|g|@0.5|#k:v,w,t|c:id|T7\n'),
+    (['--clean', 'g', 'a:b', '=-5', 'k|l'], b'a_b:0|g|#k_l\na_b:-5|g|#k_l\n'),
+    (['--sample', '1', 'g', 'load', '=-5'], b'load:0|g|@1\nload:-5|g|@1\n'),
+    (['s', 'users', '=5'], b'users:=5|s\n'),
     (['s', 'users', 'alice,bob b'], b'users:alice,bob b|s\n'),
     (['s', 'users', '+042'], b'users:+042|s\n'),
     (['ms', 'rtt', '12.5'], b'rtt:12.5|ms\n'),

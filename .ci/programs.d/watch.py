@@ -3,6 +3,7 @@ import errno, os, re, signal, socket, subprocess, tempfile, time
 
 from other_clients import CLIENTS, OTHERS, UNREADABLE, line_of, printed_of, shown
 from running import LONGEST, bound, result_of, status_of
+from watch_fuzz import fuzz_cases
 
 # Packets; the rows that are printed for them, and the message.
 WATCHED_PACKETS = [b'a:1:2.5|ms|@0.5|#k:v,w|c:id|T7\n', b'b:3|c\nc\n\n', b'":|g']
@@ -24,6 +25,7 @@ def watch_cases(program):
     status, text, errors = result_of([program, '--help'], b'')
     yield 'help', (status, b'--strict' in text, errors), (0, True, b'')
     yield from foreign_cases(program)
+    yield from fuzz_cases(program)
     yield from filter_cases(program)
     yield from top_cases(program)
     yield 'no place', result_of([program, 'nowhere'], b''), (

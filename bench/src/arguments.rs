@@ -21,7 +21,7 @@ pub struct Arguments {
 }
 
 // The modes: each with its word, its work, and the sizes that it has if the words name none, as in `crates/bench`.
-const MODES: [(&str, Work, &[usize]); 14] = [
+const MODES: [(&str, Work, &[usize]); 15] = [
     ("count", client::count, &[]),
     ("count_tags", client::count_tags, &[]),
     ("options", client::options, &[]),
@@ -34,6 +34,7 @@ const MODES: [(&str, Work, &[usize]); 14] = [
     ("udp", sinks::udp, &[512, 20]),
     ("queue", sinks::queue, &[512, 20]),
     ("callers", callers::queue, &[512, 20, 2]),
+    ("refused", callers::refused, &[512, 20, 2]),
     ("udp_callers", callers::udp, &[512, 20, 2]),
     ("service", callers::service, &[512, 2]),
 ];
@@ -42,7 +43,7 @@ const MODES: [(&str, Work, &[usize]); 14] = [
 pub const USAGE: &str = "bench-rust count|count_tags|options|histogram4 N
 bench-rust tags|dtags|values|key N [SIZE]
 bench-rust packer|udp|queue N [CAP LEN]
-bench-rust callers|udp_callers N [CAP LEN CALLERS]
+bench-rust callers|refused|udp_callers N [CAP LEN CALLERS]
 bench-rust service N [CAP CALLERS]";
 
 impl Arguments {

@@ -204,7 +204,7 @@ static uint32_t make_settings(cadence_udp *to, const char *prefix, const cadence
     made.tags = tags;
     made.container = container;
     made.contained = made.container_len != 0;
-    status = cadence_prefix_text(given, room - 1, false, texts, room, &made.prefix_len);
+    status = cadence_prefix_text(given, room - 1, false, false, texts, room, &made.prefix_len);
     if (status == CADENCE_OK)
         status = cadence_environment_tags(variables, tags, made.tags_len, &made.tags_len, variable);
     if (status == CADENCE_OK)

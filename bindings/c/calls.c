@@ -14,9 +14,9 @@
 static int failures;
 static const cadence_options none = CADENCE_NO_OPTIONS;
 static const int64_t one = 1;
-static const uint64_t nanos = 1;
+static const uint64_t nanos = 1, two[] = { 1, 2 };
 static const cadence_decimal_number many_places = { 1, 31 };
-static const cadence_settings nothing = CADENCE_NO_SETTINGS, bad_prefix = { BAD, NULL, 0, NULL, 0, false, false };
+static const cadence_settings nothing = CADENCE_NO_SETTINGS, bad_prefix = { BAD, NULL, 0, NULL, 0, false, false, false };
 
 static void fail(const char *what, int line) {
     printf("calls.c:%d: %s\n", line, what);
@@ -74,6 +74,15 @@ static void helpers(void) {
     CHECK(cadence_distribute(&handle, NULL, "d", 3, NULL) == CADENCE_OK && sends(&handle, "d:3|d\n"));
     CHECK(cadence_whole(&handle, NULL, CADENCE_SET, "s", 3, NULL) == CADENCE_OK && sends(&handle, "s:3|s\n"));
     CHECK(cadence_parts(&handle, NULL, CADENCE_GAUGE, "g", -1250, 3, NULL) == CADENCE_OK && sends(&handle, "g:-1.25|g\n"));
+    CHECK(cadence_set_text(&handle, &settings, "s", "a,b", &tagged) == CADENCE_OK);
+    CHECK(sends(&handle, "p.s:a,b|s|#env:prod,beta,k:v,w,:|c:id\n"));
+    CHECK(cadence_set_text(&handle, NULL, "s", NULL, NULL) == CADENCE_INVALID);
+    CHECK(cadence_change(&handle, &settings, "g", 5, NULL) == CADENCE_OK && sends(&handle, "p.g:+5|g|#env:prod,beta|c:id\n"));
+    CHECK(cadence_change(&handle, NULL, "g", -5, NULL) == CADENCE_OK && sends(&handle, "g:-5|g\n"));
+    CHECK(cadence_parts(&handle, NULL, CADENCE_CHANGE, "g", 1250, 3, NULL) == CADENCE_OK && sends(&handle, "g:+1.25|g\n"));
+    CHECK(cadence_level_whole(&handle, NULL, "g", -5, &tagged) == CADENCE_OK && sends(&handle, "g:0|g|#k:v,w,:\ng:-5|g|#k:v,w,:\n"));
+    CHECK(cadence_level_double(&handle, NULL, "g", -0.5, NULL) == CADENCE_OK && sends(&handle, "g:0|g\ng:-0.5|g\n"));
+    CHECK(cadence_level_double(&handle, NULL, "g", (double)NAN, NULL) == CADENCE_INVALID);
     CHECK(cadence_raw(&handle, "own:1|c") == CADENCE_OK && sends(&handle, "own:1|c\n"));
     CHECK(cadence_count(&handle, NULL, NULL, 1, NULL) == CADENCE_OK && sends(&handle, ":1|c\n"));
     cadence_free(&handle);
@@ -124,11 +133,23 @@ static void doubles(void) {
     cadence_free(&handle);
 }
 
+/* Which calls of a sample are made. */
+static void samples(void) {
+    const cadence_decimal_number quarter = { 25, 2 }, all = { 1, 0 };
+    const cadence_decimal_number none[] = { { 0, 0 }, { -1, 1 }, { 2, 0 }, { 1, 19 }, { 1, 31 } };
+    bool chosen = false;
+    CHECK(cadence_chooses(&quarter, (UINT64_C(1) << 62) - 1, &chosen) == CADENCE_OK && chosen);
+    CHECK(cadence_chooses(&quarter, UINT64_C(1) << 62, &chosen) == CADENCE_OK && !chosen);
+    CHECK(cadence_chooses(&all, UINT64_MAX, &chosen) == CADENCE_OK && chosen);
+    for (size_t i = 0; i < sizeof none / sizeof none[0]; i++)
+        CHECK(cadence_chooses(&none[i], 0, &chosen) == CADENCE_INVALID && chosen);
+}
+
 /* Returns whether a prefix gives this text. */
 static bool begins_with(const char *prefix, const char *text) {
     uint8_t out[16];
     size_t length = 9;
-    return cadence_prefix_text((const uint8_t *)prefix, strlen(prefix), true, out, sizeof out, &length) == CADENCE_OK
+    return cadence_prefix_text((const uint8_t *)prefix, strlen(prefix), true, false, out, sizeof out, &length) == CADENCE_OK
         && length == strlen(text) && memcmp(out, text, length) == 0;
 }
 
@@ -139,14 +160,14 @@ static void texts_of_settings(void) {
     uint8_t out[16] = { 7 };
     size_t length = 9;
     CHECK(begins_with("", "") && begins_with("a", "a.") && begins_with("a.b..", "a.b.") && begins_with("...", "."));
-    CHECK(cadence_prefix_text(BAD, true, out, 0, &length) == CADENCE_NOT_UTF8 && length == 0);
-    CHECK(cadence_prefix_text(BYTES("a|"), true, out, 0, &length) == CADENCE_SEPARATOR && length == 0);
-    CHECK(cadence_prefix_text(BYTES("a|"), false, out, 2, &length) == CADENCE_TOO_SMALL && length == 3 && out[0] == 7);
-    CHECK(cadence_tags_text(&bad_tag, 1, true, out, 0, &length) == CADENCE_NOT_UTF8 && length == 0);
-    CHECK(cadence_tags_text(tags, 2, true, out, 0, &length) == CADENCE_SEPARATOR && length == 0);
-    CHECK(cadence_tags_text(tags, 2, false, out, 8, &length) == CADENCE_TOO_SMALL && length == 9 && out[0] == 7);
-    CHECK(cadence_tags_text(tags, 2, false, out, 9, &length) == CADENCE_OK && memcmp(out, "|#a:b,c:d", 9) == 0);
-    CHECK(cadence_tags_text(NULL, 0, true, NULL, 0, &length) == CADENCE_OK && length == 0);
+    CHECK(cadence_prefix_text(BAD, true, false, out, 0, &length) == CADENCE_NOT_UTF8 && length == 0);
+    CHECK(cadence_prefix_text(BYTES("a|"), true, true, out, 0, &length) == CADENCE_SEPARATOR && length == 0);
+    CHECK(cadence_prefix_text(BYTES("a|"), false, false, out, 2, &length) == CADENCE_TOO_SMALL && length == 3 && out[0] == 7);
+    CHECK(cadence_tags_text(&bad_tag, 1, true, false, out, 0, &length) == CADENCE_NOT_UTF8 && length == 0);
+    CHECK(cadence_tags_text(tags, 2, true, true, out, 0, &length) == CADENCE_SEPARATOR && length == 0);
+    CHECK(cadence_tags_text(tags, 2, false, false, out, 8, &length) == CADENCE_TOO_SMALL && length == 9 && out[0] == 7);
+    CHECK(cadence_tags_text(tags, 2, false, false, out, 9, &length) == CADENCE_OK && memcmp(out, "|#a:b,c:d", 9) == 0);
+    CHECK(cadence_tags_text(NULL, 0, true, false, NULL, 0, &length) == CADENCE_OK && length == 0);
     CHECK(cadence_test_text(BAD) == CADENCE_NOT_UTF8 && cadence_test_text(BYTES("a b")) == CADENCE_OK);
     for (size_t room = 0; room < 7; room++) {
         length = 9;
@@ -162,7 +183,7 @@ static void texts_of_settings(void) {
 /* Returns whether settings begin each name with this text, and add nothing else. */
 static bool begins(cadence_settings settings, const char *text) {
     return settings.prefix_len == strlen(text) && memcmp(settings.prefix, text, strlen(text)) == 0 && settings.tags_len == 0
-        && !settings.contained && !settings.strict;
+        && !settings.contained && !settings.strict && !settings.cleaned;
 }
 
 static void prefixes_have_one_dot(void) {
@@ -218,18 +239,48 @@ static void order_of_a_call(void) {
     CHECK(cadence_signed(&open, &nothing, 0, BYTES("k"), &one, 1, &bad_tags) == CADENCE_NOT_UTF8);
     CHECK(cadence_signed(&open, &nothing, 0, BYTES("k"), &one, 1, &bad_container) == CADENCE_NOT_UTF8);
     CHECK(cadence_raw(&open, "a") == CADENCE_OK && cadence_raw(&open, "b") == CADENCE_OK);
+    CHECK(cadence_member(&closed, &bad_prefix, BAD, BYTES(""), &none) == CADENCE_INVALID);
+    CHECK(cadence_member(&closed, &bad_prefix, BAD, BAD, &none) == CADENCE_INVALID);
+    CHECK(cadence_member(&closed, &bad_prefix, BAD, BYTES("m"), &none) == CADENCE_NO_CLIENT);
+    CHECK(cadence_member(&open, &bad_prefix, BYTES("k"), BYTES("m"), &none) == CADENCE_NOT_UTF8);
+    CHECK(cadence_member(&open, &nothing, BYTES("k"), BYTES("m"), &bad_tags) == CADENCE_NOT_UTF8);
+    CHECK(cadence_signed(&closed, &bad_prefix, CADENCE_CHANGE, BAD, NULL, 0, &none) == CADENCE_INVALID);
+    CHECK(cadence_unsigned(&open, &nothing, CADENCE_CHANGE, BYTES("k"), two, 2, &none) == CADENCE_INVALID);
+    CHECK(cadence_duration(&open, &nothing, CADENCE_CHANGE, BYTES("k"), &nanos, 1, &none) == CADENCE_INVALID);
     CHECK(cadence_signed(&open, &nothing, 0, BYTES("k"), &one, 1, &bad_rate) == CADENCE_INVALID);
     CHECK(cadence_signed(&open, &nothing, 0, BYTES("k"), &one, 1, &none) == CADENCE_FULL);
     CHECK(cadence_raw(&open, "c") == CADENCE_FULL);
     cadence_free(&open);
 }
 
+/* The lines of a gauge below 0 are in one packet, and neither is kept if there is no room for both. */
+static void levels_in_packets(void) {
+    static char key[CADENCE_LEVEL_BYTES];
+    cadence_handle handle = opened(20, CADENCE_REFUSE);
+    CHECK(cadence_raw(&handle, "a.name:1|c") == CADENCE_OK && cadence_level_whole(&handle, NULL, "g", -5, NULL) == CADENCE_OK);
+    cadence_flush(&handle);
+    CHECK(cadence_level_whole(&handle, NULL, "g", -6, NULL) == CADENCE_OK);
+    CHECK(cadence_level_whole(&handle, NULL, "g", -7, NULL) == CADENCE_FULL);
+    CHECK(sends(&handle, "a.name:1|c\n") && sends(&handle, "g:0|g\ng:-5|g\n") && sends(&handle, "g:0|g\ng:-6|g\n"));
+    memset(key, 'k', sizeof key - 1);
+    for (size_t len = 1; len < sizeof key - 1; len++) {
+        key[len] = '\0';
+        const uint32_t status = cadence_level_whole(&handle, NULL, key, -5, NULL);
+        CHECK(status == (2 * len + 10 <= CADENCE_LEVEL_BYTES ? CADENCE_OK : CADENCE_TOO_SMALL));
+        key[len] = 'k';
+        cadence_flush(&handle), cadence_sent(&handle), cadence_sent(&handle);
+    }
+    cadence_free(&handle);
+    CHECK(cadence_level_whole(&handle, NULL, "g", -5, NULL) == CADENCE_NO_CLIENT);
+}
+
 static void order_of_a_line(void) {
     const cadence_tag bad_tag = { NULL, 0, BAD, false };
     const cadence_options bad_tags = cadence_options_of(&bad_tag, 1);
     const cadence_settings settings[] = { nothing, cadence_settings_of("p."), bad_prefix,
-                                          { NULL, 0, BAD, NULL, 0, false, false }, { NULL, 0, NULL, 0, BAD, true, false },
-                                          { NULL, 0, NULL, 0, BAD, false, false } };
+                                          { NULL, 0, BAD, NULL, 0, false, false, false },
+                                          { NULL, 0, NULL, 0, BAD, true, false, false },
+                                          { NULL, 0, NULL, 0, BAD, false, false, false } };
     size_t length = 9;
     CHECK(cadence_format_duration(&bad_prefix, 9, BAD, &nanos, 1, &none, NULL, 0, &length) == CADENCE_INVALID && length == 0);
     CHECK(cadence_format_signed(&nothing, 9, BAD, &one, 1, &none, NULL, 0, &length) == CADENCE_NOT_UTF8);
@@ -323,11 +374,67 @@ static void strict(void) {
     CHECK(cadence_count(&handle, &settings, "a.key.that.does.not.fit.beside.the.held.text|", 1, NULL) == CADENCE_SEPARATOR);
     cadence_free(&handle);
 
-    /* settings that are not strict */
+    /* settings that are neither strict nor cleaned */
     handle = opened(64, CADENCE_REFUSE);
     const cadence_tag odd = cadence_tag_of(",", "\n");
     CHECK(cadence_settings_make(&settings, "|", &odd, 1, ":", false, room, sizeof room, &needed) == CADENCE_OK);
     CHECK(cadence_count(&handle, &settings, "a:1", 1, NULL) == CADENCE_OK && sends(&handle, "|.a:1:1|c|#,:\n|c::\n"));
+    cadence_free(&handle);
+}
+
+/* The texts of settings that clean texts. */
+static void cleaned_texts(void) {
+    const cadence_tag bad_tag = { NULL, 0, BAD, false };
+    const cadence_tag tags[] = { cadence_tag_of("k:", "v:w|"), cadence_tag_of(NULL, "x:y") };
+    const cadence_tag unkeyed = { BAD, BYTES("a,b"), false };
+    cadence_settings settings = CADENCE_NO_SETTINGS;
+    uint8_t out[24] = { 7 };
+    size_t length = 9;
+    CHECK(cadence_cleaned_text(BYTES("a:b,c|d\ne f"), out, 11, &length) == CADENCE_OK && length == 11);
+    CHECK(memcmp(out, "a_b_c_d_e f", 11) == 0);
+    out[0] = 7;
+    CHECK(cadence_cleaned_text(BYTES("\xc3\xa9|"), out, 2, &length) == CADENCE_TOO_SMALL && length == 3 && out[0] == 7);
+    CHECK(cadence_cleaned_text(BAD, out, sizeof out, &length) == CADENCE_NOT_UTF8 && length == 0);
+    CHECK(cadence_cleaned_text(NULL, 0, NULL, 0, &length) == CADENCE_OK && length == 0);
+    CHECK(cadence_prefix_text(BAD, false, true, out, 0, &length) == CADENCE_NOT_UTF8 && length == 0);
+    CHECK(cadence_prefix_text(BYTES("a|:"), false, true, out, 4, &length) == CADENCE_OK && memcmp(out, "a__.", 4) == 0);
+    CHECK(cadence_tags_text(&bad_tag, 1, false, true, out, 0, &length) == CADENCE_NOT_UTF8 && length == 0);
+    CHECK(cadence_tags_text(&unkeyed, 1, false, true, out, 5, &length) == CADENCE_OK && memcmp(out, "|#a_b", 5) == 0);
+    for (size_t room = 0; room < 18; room++) {
+        length = 9;
+        CHECK(cadence_settings_make_cleaned(&settings, ":", tags, 2, "c|d", room != 0 ? out : NULL, room, &length) == CADENCE_TOO_SMALL);
+        CHECK(length == 18 && !settings.cleaned);
+    }
+    CHECK(cadence_settings_make_cleaned(&settings, ":", tags, 2, "c|d", out, 18, &length) == CADENCE_OK && length == 18);
+    CHECK(memcmp(out, "_.|#k_:v:w_,x_yc_d", 18) == 0 && settings.cleaned && !settings.strict);
+    CHECK(cadence_settings_make_cleaned(&settings, ":", tags, 2, NULL, out, 15, &length) == CADENCE_OK && length == 15);
+    CHECK(!settings.contained);
+    CHECK(cadence_settings_make_cleaned(&settings, "p", tags, 1, "\xff", out, 0, &length) == CADENCE_NOT_UTF8 && length == 0);
+}
+
+/* The lines of calls of settings that clean texts, known or not, and of settings that are strict as well. */
+static void cleaned_calls(void) {
+    static uint8_t room[64];
+    size_t needed;
+    cadence_settings settings;
+    cadence_handle handle = opened(128, CADENCE_REFUSE);
+    const cadence_tag odd = cadence_tag_of(",", "\n"), tags[] = { cadence_tag_of("k|", "v:w,"), cadence_tag_of(NULL, "x:y") };
+    cadence_options options = cadence_options_of(tags, 2);
+    options.container = (const uint8_t *)"c\nd", options.container_len = 3;
+    CHECK(cadence_settings_make_cleaned(&settings, "|", &odd, 1, ":", room, sizeof room, &needed) == CADENCE_OK);
+    for (int known = 0; known <= 1; known++) {
+        options.known = known, options.contained = false;
+        CHECK(cadence_count(&handle, &settings, "a:1|c\nb", 1, &options) == CADENCE_OK);
+        CHECK(sends(&handle, "_.a_1_c_b:1|c|#_:_,k_:v:w_,x_y|c:_\n"));
+        options.contained = true;
+        CHECK(cadence_level_whole(&handle, &settings, "a|", -1, &options) == CADENCE_OK);
+        CHECK(sends(&handle, "_.a_:0|g|#_:_,k_:v:w_,x_y|c:c_d\n_.a_:-1|g|#_:_,k_:v:w_,x_y|c:c_d\n"));
+    }
+    CHECK(cadence_set_text(&handle, &settings, "s:", "a,b", NULL) == CADENCE_OK && sends(&handle, "_.s_:a,b|s|#_:_|c:_\n"));
+    CHECK(cadence_set_text(&handle, &settings, "s", "a:b", NULL) == CADENCE_INVALID);
+    CHECK(cadence_count(&handle, &settings, "\xff", 1, NULL) == CADENCE_NOT_UTF8);
+    settings.strict = true;
+    CHECK(cadence_count(&handle, &settings, "a:1", 1, NULL) == CADENCE_SEPARATOR);
     cadence_free(&handle);
 }
 
@@ -372,7 +479,7 @@ static void held_text(void) {
 #ifdef __cplusplus
 extern "C"
 #endif
-void cadence_c_lend(bool lent); /* of heap.c, whose functions only a program with the static library sees */
+size_t *cadence_c_lend(void); /* of heap.c, whose functions only a program with the static library sees */
 
 /* Writes lines that fit into the room of the heap, fill it and pass it, with the room and without it. */
 static void lent_room(void) {
@@ -381,10 +488,11 @@ static void lent_room(void) {
     for (size_t len = 0; len <= sizeof key; len++) {
         size_t lengths[2] = { 0, 0 };
         for (int lent = 0; lent <= 1; lent++) {
-            cadence_c_lend(lent != 0);
+            size_t *const left = cadence_c_lend();
+            if (lent == 0) *left = 0;
             CHECK(cadence_format_signed(&nothing, CADENCE_COUNTER, key, len, &one, 1, &none, out[lent], sizeof out[lent],
                                         &lengths[lent]) == CADENCE_OK);
-            cadence_c_lend(false);
+            *left = 0;
         }
         CHECK(lengths[0] == len + 4 && lengths[1] == lengths[0] && memcmp(out[0], out[1], lengths[0]) == 0);
     }
@@ -399,8 +507,12 @@ int main(void) {
     integers();
     order_of_a_client();
     order_of_a_call();
+    levels_in_packets();
     order_of_a_line();
+    samples();
     strict();
+    cleaned_texts();
+    cleaned_calls();
     what_stays();
     held_text();
     lent_room();

@@ -1,8 +1,8 @@
 /* SPDX-License-Identifier: Apache-2.0 OR MIT */
 /* fuzz SEQUENCES [SEED]: makes random calls with a heap that fails at random. It compares what is sent with the frames of
  * the lines whose calls returned CADENCE_OK. If a call returns another status, the counts must be as they were before
- * it. Strict settings must refuse just the texts with a separator, other than colons after the keys of tags. Before
- * these calls it makes keys and adds numbers by them, and the heap refuses each request in turn. It prints the first
+ * it. Strict settings must refuse just the texts with a separator, other than colons after the keys of tags. Of settings
+ * that clean texts, it compares the lines and the texts with those of texts that it cleaned itself. Before these calls it makes keys and adds numbers by them, and the heap refuses each request in turn. It prints the first
  * fault, and its exit status is then 1. At the end it prints a checksum of all statuses, lines and packets, which is the
  * same on each processor for the same words. */
 #include "cadence.h"
@@ -116,6 +116,31 @@ static uint32_t strictly(bool strict, bool free_texts, uint32_t status) {
     return status;
 }
 
+/* Texts that this program cleaned itself, of one call. */
+static uint8_t cleaned_texts[1024];
+static size_t cleaned_len;
+
+/* Returns a text with a '_' in place of each separator, other than colons if they stay. */
+static text cleaned_of(const uint8_t *at, size_t length, bool colons_stay) {
+    uint8_t *const to = cleaned_texts + cleaned_len;
+    for (size_t i = 0; i < length; i++)
+        to[i] = is_free(at + i, 1) || (colons_stay && at[i] == ':') ? at[i] : '_';
+    cleaned_len += length;
+    return (text){ to, length };
+}
+
+static void clean_tags(const cadence_tag *from, size_t count, cadence_tag *to) {
+    for (size_t i = 0; i < count; i++) {
+        const text key = cleaned_of(from[i].key, from[i].key_len, false);
+        const text value = cleaned_of(from[i].text, from[i].text_len, from[i].keyed);
+        to[i] = (cadence_tag){ key.at, key.length, value.at, value.length, from[i].keyed };
+    }
+}
+
+static bool is_same(const uint8_t *at, size_t length, const uint8_t *other, size_t other_length) {
+    return length == other_length && (length == 0 || memcmp(at, other, length) == 0);
+}
+
 static cadence_tag some_tag(void) {
     text key = some_text(), value = some_text();
     cadence_tag tag = { key.at, key.length, value.at, value.length, below(2) };
@@ -125,7 +150,7 @@ static cadence_tag some_tag(void) {
 static cadence_tag tags[4];
 
 /* The settings of later calls. Their texts are in `room`, or pieces of `texts`. */
-static uint8_t room[512];
+static uint8_t room[640];
 static cadence_settings settings = CADENCE_NO_SETTINGS;
 static bool plain_settings = true;
 
@@ -195,7 +220,34 @@ static void opens(host *h) {
     h->capacity = capacity, h->drops = policy == CADENCE_DROP_OLDEST;
 }
 
-/* Makes settings of random texts. If a text is refused, the settings stay as they were. */
+/* Makes the default container of settings, which have their other texts. */
+static uint32_t makes_container(cadence_settings *made, text container) {
+    if (made->strict)
+        return strictly(true, is_free(container.at, container.length), cadence_test_text(container.at, container.length));
+    if (!made->cleaned) return CADENCE_OK;
+    const size_t used = made->prefix_len + made->tags_len;
+    made->container = room + used;
+    return cadence_cleaned_text(container.at, container.length, room + used, sizeof room - used, &made->container_len);
+}
+
+/* Compares the texts of settings that clean texts with those of texts that this program cleaned itself. */
+static void compare_settings(const cadence_settings *made, text prefix, size_t count, text container) {
+    static uint8_t other[sizeof room];
+    cadence_tag own[4];
+    size_t length = 0;
+    cleaned_len = 0;
+    prefix = cleaned_of(prefix.at, prefix.length, false);
+    container = cleaned_of(container.at, container.length, false);
+    clean_tags(tags, count, own);
+    uint32_t status = cadence_prefix_text(prefix.at, prefix.length, false, false, other, sizeof other, &length);
+    if (status != CADENCE_OK || !is_same(made->prefix, made->prefix_len, other, length)) fail("a prefix is not cleaned", status);
+    status = cadence_tags_text(own, count, false, false, other, sizeof other, &length);
+    if (status != CADENCE_OK || !is_same(made->tags, made->tags_len, other, length)) fail("tags are not cleaned", status);
+    if (made->contained && !is_same(made->container, made->container_len, container.at, container.length))
+        fail("a container is not cleaned", status);
+}
+
+/* Makes settings of random texts. If a text is refused, later calls have no settings. */
 static void sets(void) {
     all_plain = true;
     const text prefix = some_text(), container = some_text();
@@ -204,20 +256,19 @@ static void sets(void) {
     size_t n = below(5), length = sizeof room;
     for (size_t i = 0; i < n; i++) tags[i] = some_tag(), are_clear_tags = are_clear_tags && is_clear_tag(&tags[i]);
     requests = 0, refuse_at = below(4) == 0 ? 1 + below(3) : 0;
-    made.strict = below(3) == 0, made.contained = below(2);
+    made.strict = below(3) == 0, made.cleaned = below(3) == 0, made.contained = below(2);
     made.container = container.at, made.container_len = container.length;
-    uint32_t status = cadence_prefix_text(prefix.at, prefix.length, made.strict, room, length, &made.prefix_len);
+    uint32_t status = cadence_prefix_text(prefix.at, prefix.length, made.strict, made.cleaned, room, length, &made.prefix_len);
     strictly(made.strict, is_free(prefix.at, prefix.length), status);
     made.prefix = room, made.tags = room + made.prefix_len, length -= made.prefix_len;
     if (status == CADENCE_OK) {
-        status = cadence_tags_text(n != 0 ? tags : NULL, n, made.strict, room + made.prefix_len, length, &made.tags_len);
+        status = cadence_tags_text(n != 0 ? tags : NULL, n, made.strict, made.cleaned, room + made.prefix_len, length,
+                                   &made.tags_len);
         strictly(made.strict, are_clear_tags, status);
     }
-    if (status == CADENCE_OK && made.contained && made.strict) {
-        status = cadence_test_text(container.at, container.length);
-        strictly(true, is_free(container.at, container.length), status);
-    }
+    if (status == CADENCE_OK && made.contained) status = makes_container(&made, container);
     refuse_at = 0;
+    if (status == CADENCE_OK && made.cleaned) compare_settings(&made, prefix, n, container);
     settings = (cadence_settings)CADENCE_NO_SETTINGS;
     plain_settings = true;
     if (status == CADENCE_OK) settings = made, plain_settings = all_plain;
@@ -238,14 +289,35 @@ static uint32_t formats(text key, const cadence_options *options, uint8_t *line,
     cadence_decimal_number numbers[3] = { { -25, 1 }, { INT64_MIN, (uint8_t)below(33) }, { (int64_t)below(100), 30 } };
     const double floats[3] = { below(100) / 8.0, some_double(), some_double() };
     size_t n = below(4);
-    uint32_t kind = below(12) == 0 ? 7 : below(7);
-    switch (below(5)) {
+    const text member = some_text();
+    uint32_t kind = below(12) == 0 ? 8 : below(8); /* CADENCE_CHANGE is 7 */
+    switch (below(6)) {
     case 0: return cadence_format_unsigned(&settings, kind, key.at, key.length, n != 0 ? whole : NULL, n, options, line, most, length);
     case 1: return cadence_format_decimal(&settings, kind, key.at, key.length, numbers, n, options, line, most, length);
     case 2: return cadence_format_floating(&settings, kind, key.at, key.length, floats, n, options, line, most, length);
     case 3: return cadence_format_duration(&settings, kind, key.at, key.length, whole, n, options, line, most, length);
+    case 4: return cadence_format_member(&settings, key.at, key.length, member.at, member.length, options, line, most, length);
     default: return cadence_format_signed(&settings, kind, key.at, key.length, n != 0 ? values : NULL, n, options, line, most, length);
     }
+}
+
+/* Makes a call again that wrote this line, from the same random numbers, but with texts that this program cleaned itself
+ * and with settings that clean none. It must write the same line. */
+static void compare_line(uint64_t seed_before, text key, cadence_options options, const uint8_t *line, size_t length) {
+    static uint8_t other[LONGEST];
+    const uint64_t seed_after = seed;
+    const long refused_request = refuse_at;
+    cadence_tag own[4];
+    size_t other_length = 0;
+    cleaned_len = 0;
+    key = cleaned_of(key.at, key.length, false);
+    options.container = cleaned_of(options.container, options.container_len, false).at;
+    clean_tags(options.tags, options.tags_len, own);
+    options.tags = own;
+    settings.cleaned = false, refuse_at = 0, seed = seed_before;
+    const uint32_t status = formats(key, &options, other, sizeof other, &other_length);
+    settings.cleaned = true, refuse_at = refused_request, seed = seed_after;
+    if (status != CADENCE_OK || !is_same(line, length, other, other_length)) fail("a line is not cleaned", status);
 }
 
 /* Formats a line without a client, and keeps it by cadence_line. */
@@ -255,10 +327,14 @@ static uint32_t keeps_line(host *h) {
     text key = some_text();
     cadence_options options = some_options();
     size_t length = 1, most = below(6) == 0 ? below(40) : sizeof line;
+    const uint64_t seed_before = seed;
     uint32_t status = formats(key, &options, line, most, &length);
+    const long made_requests = requests;
     strictly(settings.strict, is_clear_call(key, &options), status);
     if (status == CADENCE_TOO_SMALL ? length <= most : status != CADENCE_OK && length != 0) fail("a length of no line", status);
     if (status != CADENCE_OK) return status;
+    if (settings.cleaned) compare_line(seed_before, key, options, line, length);
+    requests = made_requests;
     add_to_sum(line, length);
     status = cadence_line(&h->handle, line, length);
     if (status == CADENCE_OK) keeps(h, line, length);
@@ -271,12 +347,14 @@ static uint32_t keeps_value_of(host *h, text key, cadence_options options) {
     cadence_decimal_number numbers[3] = { { -25, 1 }, { INT64_MIN, (uint8_t)below(33) }, { (int64_t)below(100), 30 } };
     const double floats[3] = { below(100) / 8.0, some_double(), some_double() };
     size_t n = below(4);
-    uint32_t kind = below(12) == 0 ? 7 : below(7);
-    switch (below(5)) {
+    const text member = some_text();
+    uint32_t kind = below(12) == 0 ? 8 : below(8);
+    switch (below(6)) {
     case 0: return cadence_unsigned(&h->handle, &settings, kind, key.at, key.length, n != 0 ? whole : NULL, n, &options);
     case 1: return cadence_decimal(&h->handle, &settings, kind, key.at, key.length, numbers, n, &options);
     case 2: return cadence_floating(&h->handle, &settings, kind, key.at, key.length, floats, n, &options);
     case 3: return cadence_duration(&h->handle, &settings, kind, key.at, key.length, whole, n, &options);
+    case 4: return cadence_member(&h->handle, &settings, key.at, key.length, member.at, member.length, &options);
     default: return cadence_signed(&h->handle, &settings, kind, key.at, key.length, (const int64_t *)whole, n, &options);
     }
 }

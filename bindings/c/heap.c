@@ -52,7 +52,9 @@ void cadence_c_dealloc(void *at) {
     if (!is_in_room(at)) free(at);
 }
 
-/* Lends the room of this thread to a call, or takes the whole room back after it. */
-void cadence_c_lend(bool lent) {
-    room.left = lent ? ROOM : 0;
+/* Lends the room of this thread to a call. After the call the host writes 0 to the place that this returns, which takes the
+ * whole room back. */
+size_t *cadence_c_lend(void) {
+    room.left = ROOM;
+    return &room.left;
 }

@@ -18,7 +18,7 @@ int main() {
     std::printf("\nsettings %zu", sizeof(cadence_settings));
     AT(cadence_settings, prefix), AT(cadence_settings, prefix_len), AT(cadence_settings, tags);
     AT(cadence_settings, tags_len), AT(cadence_settings, container), AT(cadence_settings, container_len);
-    AT(cadence_settings, contained), AT(cadence_settings, strict);
+    AT(cadence_settings, contained), AT(cadence_settings, strict), AT(cadence_settings, cleaned);
     std::printf("\noptions %zu", sizeof(cadence_options));
     AT(cadence_options, tags), AT(cadence_options, tags_len), AT(cadence_options, container);
     AT(cadence_options, container_len), AT(cadence_options, rate), AT(cadence_options, time);

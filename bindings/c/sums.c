@@ -146,7 +146,7 @@ static void calls(void) {
     CHECK(cadence_add_whole(&sums, &handle, &prefix, CADENCE_COUNTER, "a", 1, &tagged) == CADENCE_OK);
     CHECK(cadence_add_whole(&sums, &handle, &prefix, CADENCE_COUNTER, "a", -8, &tagged) == CADENCE_OK);
     CHECK(cadence_add_double(&sums, &handle, NULL, CADENCE_GAUGE, "g", 0.75, NULL) == CADENCE_OK);
-    CHECK(cadence_add_whole(&sums, &handle, NULL, 7, "g", 1, NULL) == CADENCE_INVALID);
+    CHECK(cadence_add_whole(&sums, &handle, NULL, 9, "g", 1, NULL) == CADENCE_INVALID);
     memset(key, 'k', sizeof key);
     key[sizeof key - 1] = 0;
     CHECK(cadence_add_whole(&sums, &handle, NULL, CADENCE_GAUGE, key, 1, NULL) == CADENCE_OK && cadence_flush(&handle) == CADENCE_OK);

@@ -51,6 +51,7 @@ MODES = [
     Work('callers', '64 20', '1 2 4', 'a line of {} callers into a queue of 64', 200000),
     Work('callers', '0 600', '1 4', 'a line of 600 bytes of {} callers into an unbounded queue', 200000),
     Work('callers', '0 1200', '1 4', 'a line of 1200 bytes of {} callers into an unbounded queue', 200000),
+    Work('refused', '512 20', '1 4 8', 'a line of {} callers that a full queue refuses, while its worker sleeps', 500000),
     Work('udp_callers', '512 20', '1 2 4', 'a line of {} callers into a buffered UDP sink', 200000),
     Work('service', '0', '1 2 4', 'a counter of {} callers, through an unbounded queue into a buffered UDP sink', 200000),
     Work('service', '1024', '1 2 4', 'a counter of {} callers, through a queue of 1024 into a buffered UDP sink', 200000),

@@ -28,7 +28,7 @@ bool call_begin(call *c, PyObject *parts, PyObject *const *args, Py_ssize_t coun
     c->options = none;
     c->text = NULL;
     c->values.at = c->values.small;
-    c->values.small[0] = (cadence_decimal_number){ .mantissa = 0 }; /* put_line prints it if the value is a text */
+    c->values.small[0] = (cadence_decimal_number){ .mantissa = 0 };
     c->values.len = 0;
     c->values.is_large = c->values.is_double = false;
     c->tags.at = c->tags.small;
@@ -41,6 +41,7 @@ bool call_begin(call *c, PyObject *parts, PyObject *const *args, Py_ssize_t coun
     c->kind = (uint32_t)PyLong_AsUnsignedLong(args[0]);
     c->form = PyLong_AsLong(args[1]);
     if (PyErr_Occurred()) return false;
+    if (c->form == CHANGE) c->kind = CADENCE_CHANGE;
     if (!PyUnicode_Check(args[2])) {
         PyErr_Format(PyExc_TypeError, "the name %R is not a str", args[2]);
         return false;

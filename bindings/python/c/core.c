@@ -63,19 +63,26 @@ static uint32_t renew(packer *self) {
     return sums_open(&self->sums, &self->handle, self->capacity, self->packets);
 }
 
-/* Makes the texts of the settings, which already say whether they are strict. */
+/* Makes the texts of the settings, which already say whether they are strict and whether they are cleaned. */
 static uint32_t make_texts(packer *self, const uint8_t *prefix, size_t prefix_len, const tags_of_call *tags) {
     cadence_settings *to = &self->settings;
-    size_t room = prefix_len + 3;
+    size_t room = prefix_len + 3 + (to->cleaned ? to->container_len : 0);
     for (size_t i = 0; i < tags->len; i++) room += tags->at[i].key_len + tags->at[i].text_len + 2;
     self->texts = PyMem_Malloc(room);
     if (self->texts == NULL) return CADENCE_NO_MEMORY;
-    uint32_t status = cadence_prefix_text(prefix, prefix_len, to->strict, self->texts, room, &to->prefix_len);
+    uint32_t status = cadence_prefix_text(prefix, prefix_len, to->strict, to->cleaned, self->texts, room, &to->prefix_len);
     to->prefix = self->texts;
-    to->tags = self->texts + to->prefix_len;
+    uint8_t *next = self->texts + to->prefix_len;
+    room -= to->prefix_len;
+    to->tags = next;
     if (status == CADENCE_OK)
-        status = cadence_tags_text(tags->at, tags->len, to->strict, self->texts + to->prefix_len, room - to->prefix_len, &to->tags_len);
-    if (status == CADENCE_OK && to->strict && to->contained) status = cadence_test_text(to->container, to->container_len);
+        status = cadence_tags_text(tags->at, tags->len, to->strict, to->cleaned, next, room, &to->tags_len);
+    if (status != CADENCE_OK || !to->contained) return status;
+    if (to->strict) return cadence_test_text(to->container, to->container_len);
+    if (!to->cleaned) return CADENCE_OK;
+    next += to->tags_len;
+    status = cadence_cleaned_text(to->container, to->container_len, next, room - to->tags_len, &to->container_len);
+    to->container = next;
     return status;
 }
 
@@ -96,11 +103,12 @@ static bool begin(packer *self, PyObject *prefix, PyObject *container, const tag
 }
 
 static int packer_init(packer *self, PyObject *args, PyObject *named) {
-    static char *names[] = { "prefix", "capacity", "packets", "strict", "tags", "container", "adds_up", NULL };
+    static char *names[] = { "prefix", "capacity", "packets", "strict", "clean", "tags", "container", "adds_up", NULL };
     PyObject *prefix, *tags = Py_None, *container = Py_None;
     Py_ssize_t capacity, packets;
-    int strict = 0, adds_up = 0;
-    if (!PyArg_ParseTupleAndKeywords(args, named, "Unn|pOOp", names, &prefix, &capacity, &packets, &strict, &tags, &container, &adds_up))
+    int strict = 0, clean = 0, adds_up = 0;
+    if (!PyArg_ParseTupleAndKeywords(args, named, "Unn|ppOOp", names, &prefix, &capacity, &packets, &strict, &clean, &tags, &container,
+                                     &adds_up))
         return -1;
     if (self->texts != NULL || self->kept != NULL || capacity < 0 || packets < 0) {
         PyErr_SetString(PyExc_ValueError, "a Packer is made once, of a capacity and packets from 0 on");
@@ -109,10 +117,13 @@ static int packer_init(packer *self, PyObject *args, PyObject *named) {
     self->capacity = (size_t)capacity;
     self->packets = (size_t)packets;
     self->settings.strict = strict;
+    self->settings.cleaned = clean;
     self->sums.used = adds_up;
     self->process = process_number();
     tags_of_call defaults = { .len = 0 };
-    const bool made = tags_begin(&defaults, tags) && begin(self, prefix, container, &defaults);
+    bool made = tags_begin(&defaults, tags);
+    if (made && clean) tags_cut(&defaults);
+    made = made && begin(self, prefix, container, &defaults);
     tags_end(&defaults);
     return made ? 0 : -1;
 }
@@ -139,8 +150,9 @@ static bool has_room(packer *self, size_t room) {
     return true;
 }
 
-/* Lends the room of the library's heap to a call that frees all memory that it requests. It is a function of that heap. */
-void cadence_c_lend(bool lent);
+/* Lends the room of the library's heap to a call that frees all memory that it requests, until 0 is written to the place that
+ * it returns. It is a function of that heap. */
+size_t *cadence_c_lend(void);
 
 /* Appends the line of a call to the text in self->line. */
 static uint32_t put_line(packer *self, const call *c) {
@@ -148,8 +160,10 @@ static uint32_t put_line(packer *self, const call *c) {
         size_t len = 0;
         uint8_t *out = self->line + self->line_len;
         const size_t room = self->line_room - self->line_len;
-        cadence_c_lend(true);
-        const uint32_t status = c->values.is_double
+        size_t *const lent = cadence_c_lend();
+        const uint32_t status = c->text != NULL
+            ? cadence_format_member(&self->settings, c->key, c->key_len, c->text, c->text_len, &c->options, out, room, &len)
+            : c->values.is_double
             ? cadence_format_floating(&self->settings, c->kind, c->key, c->key_len, &c->values.number, 1,
                                       &c->options, out, room, &len)
             : c->values.is_large
@@ -157,24 +171,16 @@ static uint32_t put_line(packer *self, const call *c) {
                                       &c->options, out, room, &len)
             : cadence_format_decimal(&self->settings, c->kind, c->key, c->key_len, c->values.at,
                                      c->values.len, &c->options, out, room, &len);
-        cadence_c_lend(false);
+        *lent = 0;
         if (status == CADENCE_OK) self->line_len += len;
         if (status != CADENCE_TOO_SMALL) return status;
         if (!has_room(self, self->line_len + len)) return CADENCE_NO_MEMORY;
     }
 }
 
-/* Replaces the `cut` bytes of self->line from `at` on by a text. */
-static uint32_t splice(packer *self, size_t at, size_t cut, const void *text, size_t len) {
-    if (!has_room(self, self->line_len - cut + len)) return CADENCE_NO_MEMORY;
-    memmove(self->line + at + len, self->line + at + cut, self->line_len - at - cut);
-    if (len != 0) memcpy(self->line + at, text, len);
-    self->line_len += len - cut;
-    return CADENCE_OK;
-}
-
 /* Puts the line that sets a gauge to 0, before one that sets it to a value below 0. A server reads a value with a sign as a
- * change of the gauge. Both lines are in one packet, unless they are added up. */
+ * change of the gauge. Both lines are kept as one text, with a newline between them, so they are in one packet, unless they
+ * are added up. */
 static uint32_t put_zero(packer *self, call *c) {
     const int64_t mantissa = c->values.at->mantissa;
     const bool is_double = c->values.is_double;
@@ -183,25 +189,24 @@ static uint32_t put_zero(packer *self, call *c) {
     uint32_t status = put_line(self, c);
     c->values.at->mantissa = mantissa;
     c->values.is_double = is_double;
-    if (status != CADENCE_OK || !self->sums.used) return status != CADENCE_OK ? status : splice(self, self->line_len, 0, "\n", 1);
+    if (status != CADENCE_OK) return status;
+    if (!self->sums.used) {
+        if (!has_room(self, self->line_len + 1)) return CADENCE_NO_MEMORY;
+        self->line[self->line_len++] = '\n';
+        return CADENCE_OK;
+    }
     status = sums_line(&self->sums, &self->handle, self->line, self->line_len);
     self->line_len = 0;
     return status;
 }
 
-/* Keeps the line of a call. The library prints neither a text as a value nor a sign before a number, so these are put into
- * the line of a number. */
+/* Keeps the line of a call. */
 static uint32_t keep(packer *self, call *c) {
     const bool below = c->values.is_double ? c->values.number < 0 : c->values.at->mantissa < 0;
-    const bool minus = c->values.len == 1 && !c->values.is_large && below, plus = c->form == CHANGE && !minus;
-    const size_t at = self->settings.prefix_len + c->key_len + 1; /* where the value is */
     uint32_t status = CADENCE_OK;
     self->line_len = 0;
-    if (c->form == LEVEL && minus) status = put_zero(self, c);
+    if (c->form == LEVEL && c->values.len == 1 && !c->values.is_large && below) status = put_zero(self, c);
     if (status == CADENCE_OK) status = put_line(self, c);
-    if (status == CADENCE_OK && c->text != NULL && self->settings.strict) status = cadence_test_text(c->text, c->text_len);
-    if (status == CADENCE_OK && c->text != NULL) status = splice(self, at, 1, c->text, c->text_len);
-    if (status == CADENCE_OK && plus) status = splice(self, at, 0, "+", 1);
     return status != CADENCE_OK ? status : sums_line(&self->sums, &self->handle, self->line, self->line_len);
 }
 
@@ -243,7 +248,10 @@ static PyObject *packer_keep(packer *self, PyObject *const *args, Py_ssize_t cou
     const uint32_t status = name != NULL ? sums_number(&self->sums, &self->handle, name, number) : CADENCE_INVALID;
     if (status != CADENCE_INVALID) made = answer(self, status);
     else {
-        if (call_begin(&c, self->parts, args, count)) made = answer(self, keep(self, &c));
+        if (call_begin(&c, self->parts, args, count)) {
+            if (self->settings.cleaned) tags_cut(&c.tags);
+            made = answer(self, keep(self, &c));
+        }
         if (made != NULL && name != NULL) sums_key(&self->sums, name, self->line, self->line_len);
         call_end(&c);
     }
@@ -341,7 +349,8 @@ static PyMethodDef methods[] = {
 };
 
 static PyType_Slot slots[] = {
-    { Py_tp_doc, "Packer(prefix, capacity, packets, strict=False, tags=None, container=None, adds_up=False): makes lines and packs them into packets." },
+    { Py_tp_doc, "Packer(prefix, capacity, packets, strict=False, clean=False, tags=None, container=None, adds_up=False): makes lines and packs "
+                  "them into packets." },
     { Py_tp_init, packer_init },
     { Py_tp_dealloc, packer_dealloc },
     { Py_tp_methods, methods },

@@ -32,6 +32,8 @@ void values_end(values_of_call *values);
 bool text_of(PyObject *value, PyObject **texts, const uint8_t **at, size_t *len);
 bool time_of(PyObject *time, bool *timed, uint64_t *to);
 bool tags_begin(tags_of_call *tags, PyObject *given);
+/* Cuts each tag that is a text at its first colon, as "page:home", into a key and a text. */
+void tags_cut(tags_of_call *tags);
 void tags_end(tags_of_call *tags);
 
 /* The arguments of a call that makes a metric. */

@@ -1,7 +1,6 @@
 /* SPDX-License-Identifier: Apache-2.0 OR MIT */
 /* The calls that make events and service checks: they read the arguments, and then keep the line. */
 #include "core.h"
-#include <string.h>
 
 /* Reads a text, or None, which leaves it empty. */
 static bool any_text(PyObject *value, PyObject **texts, const uint8_t **at, size_t *len) {
@@ -17,17 +16,11 @@ static bool number_of(PyObject *value, const char *what, const char *const *name
     return false;
 }
 
-/* Reads tags. One that is a text is cut at its first colon, as "page:home", so that the library tests its parts; the line
- * stays the same. A strict client cuts none, so it refuses such a text as it does in a metric. */
+/* Reads tags. The library tests the parts of each one, so a text is cut at its first colon; the line stays the same. A strict
+ * client cuts none, so it refuses such a text as it does in a metric. */
 static bool begin_tags(tags_of_call *tags, PyObject *given, bool strict) {
     if (!tags_begin(tags, given)) return false;
-    for (size_t i = 0; i < tags->len && !strict; i++) {
-        cadence_tag *const tag = &tags->at[i];
-        const uint8_t *const colon = tag->keyed ? NULL : memchr(tag->text, ':', tag->text_len);
-        if (colon == NULL) continue;
-        const size_t len = (size_t)(colon - tag->text);
-        *tag = (cadence_tag){ .key = tag->text, .key_len = len, .text = colon + 1, .text_len = tag->text_len - len - 1, .keyed = true };
-    }
+    if (!strict) tags_cut(tags);
     return true;
 }
 

@@ -1,6 +1,7 @@
 /* SPDX-License-Identifier: Apache-2.0 OR MIT */
 /* Converts texts and tags of Python to those of the library. */
 #include "core.h"
+#include <string.h>
 
 /* Returns whether the text of an object isn't what a caller means: that of bytes, or of an object that has others in it. */
 static bool has_no_text(PyObject *value) {
@@ -68,6 +69,16 @@ bool tags_begin(tags_of_call *tags, PyObject *given) {
     for (; tags->len < len; tags->len++)
         if (!tag_of(PyList_GetItem(tags->items, (Py_ssize_t)tags->len), &tags->texts, &tags->at[tags->len])) return false;
     return true;
+}
+
+void tags_cut(tags_of_call *tags) {
+    for (size_t i = 0; i < tags->len; i++) {
+        cadence_tag *const tag = &tags->at[i];
+        const uint8_t *const colon = tag->keyed || tag->text_len == 0 ? NULL : memchr(tag->text, ':', tag->text_len);
+        if (colon == NULL) continue;
+        const size_t len = (size_t)(colon - tag->text);
+        *tag = (cadence_tag){ .key = tag->text, .key_len = len, .text = colon + 1, .text_len = tag->text_len - len - 1, .keyed = true };
+    }
 }
 
 void tags_end(tags_of_call *tags) {

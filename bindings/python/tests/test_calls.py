@@ -7,7 +7,7 @@ import unittest
 from unittest import mock
 
 from receiver import ClientTest
-from statsd_proved import StatsClient
+from statsd_proved import StatsClient, Status
 
 THREE = [f"tag{number}:{number}" for number in range(20)]
 
@@ -48,8 +48,24 @@ class Calls(ClientTest):
                    "g:+12|g", "g:-13|g", "g:+1.2|g", "g:-1.3|g", "g:+0|g", f"g:+{2 ** 64 - 1}|g")
 
     def test_set(self):
-        self.check(lambda c: (c.set("s", 10), c.set("s", 2.3), c.set("s", "bar"), c.set("s", ""), c.set("s", "é", tags=["t"])),
-                   "s:10|s", "s:2.3|s", "s:bar|s", "s:|s", "s:é|s|#t")
+        self.check(lambda c: (c.set("s", 10), c.set("s", 2.3), c.set("s", "bar"), c.set("s", "a,b #@"), c.set("s", "é", tags=["t"])),
+                   "s:10|s", "s:2.3|s", "s:bar|s", "s:a,b #@|s", "s:é|s|#t")
+
+    def test_a_text_that_would_end_in_the_line_is_refused(self):
+        texts = "", ":", "a:b", "|", "x|s", "a\n", "é|"
+        with self.client() as client:
+            for text in texts:
+                client.set("s", text, tags=["t"])
+            self.assertEqual([fault.status for fault in self.faults], [Status.INVALID] * len(texts))
+        self.assertEqual(self.receiver.packets(), [])
+        self.faults.clear()
+
+    def test_a_change_is_one_value(self):
+        with self.client() as client:
+            client.gauge("g", [1, 2], delta=True)
+            self.assertEqual([fault.status for fault in self.faults], [Status.INVALID])
+        self.assertEqual(self.receiver.packets(), [])
+        self.faults.clear()
 
     def test_timing(self):
         hour = datetime.timedelta(hours=1, microseconds=1500)

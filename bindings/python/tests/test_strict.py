@@ -41,11 +41,14 @@ class Strict(ClientTest):
             lines = self.sent_by(lambda c: (c.incr("a", tags={"own": text}), c.set("s", "v", tags={"own": text})), tags={"default": text})
             self.assertEqual(lines, [f"a:1|c|#default:{text},own:{text}", f"s:v|s|#default:{text},own:{text}"])
 
-    def test_a_call_whose_line_is_put_together_here_is_refused(self):
+    def test_a_member_may_have_a_comma(self):
+        self.assertEqual(self.sent_by(lambda c: c.set("s", "a,b")), ["s:a,b|s"])
+
+    def test_members_changes_and_gauges_below_zero_are_refused_too(self):
         for text in HOSTILE + COLONS:
             with self.subTest(text=text):
                 self.assert_refused(
-                    lambda c: c.set("s", text), lambda c: c.set(text, "v"), lambda c: c.set("s", "v", tags={text: "v"}),
+                    lambda c: c.set(text, "v"), lambda c: c.set("s", "v", tags={text: "v"}),
                     lambda c: c.set("s", "v", tags=["a", text]), lambda c: c.set("s", "v", container=text),
                     lambda c: c.gauge(text, 1, delta=True), lambda c: c.gauge("g", 1, delta=True, tags=[text]),
                     lambda c: c.gauge(text, -1), lambda c: c.gauge("g", -1, container=text))
@@ -93,8 +96,8 @@ class Strict(ClientTest):
 
 class Lax(ClientTest):
     def test_a_client_that_is_not_strict_prints_separators(self):
-        lines = self.sent_by(lambda c: (c.incr("a|b", tags=["k:v"]), c.set("s", "x|y")), prefix="p:", tags={"a,": "b|"}, container="c,")
-        self.assertEqual(lines, ["p:.a|b:1|c|#a,:b|,k:v|c:c,", "p:.s:x|y|s|#a,:b||c:c,"])
+        lines = self.sent_by(lambda c: (c.incr("a|b", tags=["k:v"]), c.set("s|", "x,y")), prefix="p:", tags={"a,": "b|"}, container="c,")
+        self.assertEqual(lines, ["p:.a|b:1|c|#a,:b|,k:v|c:c,", "p:.s|:x,y|s|#a,:b||c:c,"])
 
 
 if __name__ == "__main__":

@@ -1,19 +1,21 @@
 // SPDX-License-Identifier: MIT OR Apache-2.0
 //! The client, its builder and the traits of its calls.
 use crate::builder::MetricBuilder;
-use crate::layout::{Kind, Options, Settings, Tag};
-use crate::line::Record;
-use crate::raw::{call_refusal, Numbers, OwnedSettings, Parts, OK};
+use crate::layout::{Kind, Separators, Settings, Tag};
+use crate::line::{Record, Value};
+use crate::raw::{call_refusal, OwnedSettings, OK};
 use crate::sealed::Sealed;
 use crate::sinks::MetricSink;
 use crate::telemetry::Telemetry;
-use crate::types::{Counter, Distribution, Gauge, Histogram, Meter, Metric, MetricError, MetricResult, Set, Timer};
+use crate::types::{Counter, Distribution, Gauge, Histogram, Meter, Metric, MetricError, MetricResult, OwnMetric, Set, Timer};
 use crate::value::{
     MetricValue, ToCounterValue, ToDistributionValue, ToGaugeValue, ToHistogramValue, ToMeterValue, ToSetValue, ToTimerValue,
 };
 use std::fmt;
 use std::panic::RefUnwindSafe;
 use std::time::Duration;
+
+mod send;
 
 /// Makes a client from a prefix, a sink, default tags, a container and an error handler.
 ///
@@ -33,7 +35,7 @@ pub struct StatsdClientBuilder {
     client: StatsdClient,
     prefix: String,
     container: Option<String>,
-    strict: bool,
+    separators: Separators,
     pub(crate) telemetry: Option<(String, Duration)>,
 }
 
@@ -70,7 +72,8 @@ impl StatsdClientBuilder {
     /// can't be sent is refused first. The crate `cadence` doesn't have this call.
     ///
     /// If the prefix, a default tag or the default container has such a character, the client refuses each call, and
-    /// [`try_build`](Self::try_build) returns the error at once.
+    /// [`try_build`](Self::try_build) returns the error at once. Of this call and
+    /// [`with_cleaned_texts`](Self::with_cleaned_texts) the last one counts.
     ///
     /// ```
     /// use cadence::prelude::*;
@@ -83,7 +86,28 @@ impl StatsdClientBuilder {
     /// assert!(client.incr_with_tags("visits").with_tag("url", "http://x").try_send().is_ok());
     /// ```
     pub fn with_strict_texts(mut self) -> Self {
-        self.strict = true;
+        self.separators = Separators::Refused;
+        self
+    }
+
+    /// Makes a client that cleans texts: each `:`, `,`, `|` and newline in a key, in the key or the value of a tag, or in a
+    /// container is sent as `_`. No call is refused for such a character, and no text can make, change or split a metric.
+    /// The value of a tag with a key keeps its colons, as in `url:http://x`. The prefix, the default tags and the default
+    /// container are cleaned too. A member of a set, an event and a service check are not: they are refused as before. The
+    /// crate `cadence` doesn't have this call. Of this call and [`with_strict_texts`](Self::with_strict_texts) the last one
+    /// counts.
+    ///
+    /// ```
+    /// use cadence::prelude::*;
+    /// use cadence::{Metric, NopMetricSink, StatsdClient};
+    ///
+    /// let client = StatsdClient::builder("my.service", NopMetricSink).with_cleaned_texts().build();
+    /// assert_eq!("my.service.visits_1_c_forged:1|c", client.incr("visits:1|c\nforged").unwrap().as_metric_str());
+    /// let tagged = client.incr_with_tags("visits").with_tag("url", "http://x").with_tag_value("a:b").try_send();
+    /// assert_eq!("my.service.visits:1|c|#url:http://x,a_b", tagged.unwrap().as_metric_str());
+    /// ```
+    pub fn with_cleaned_texts(mut self) -> Self {
+        self.separators = Separators::Cleaned;
         self
     }
 
@@ -105,7 +129,7 @@ impl StatsdClientBuilder {
     /// Returns the settings of the client with a prefix, or the status of the library if they can't be made.
     fn settings_of(&self, prefix: &str) -> Result<OwnedSettings, u32> {
         let tags: Vec<Tag<'_>> = self.client.tags.iter().map(|(key, text)| Tag::new(key.as_deref(), text)).collect();
-        OwnedSettings::new(prefix, &tags, self.container.as_deref(), self.strict)
+        OwnedSettings::new(prefix, &tags, self.container.as_deref(), self.separators)
     }
 
     /// Makes the client as [`build`](Self::build) does. It fails with `InvalidInput` if the client is strict and its
@@ -154,7 +178,8 @@ impl StatsdClient {
     pub fn builder<S: MetricSink + Sync + Send + RefUnwindSafe + 'static>(prefix: &str, sink: S) -> StatsdClientBuilder {
         let (settings, sink, errors) = (OwnedSettings::default(), Box::new(sink), Box::new(|_| ()));
         let client = StatsdClient { settings, sink, errors, tags: Vec::new(), refusal: OK, telemetry: None };
-        StatsdClientBuilder { client, prefix: prefix.to_string(), container: None, strict: false, telemetry: None }
+        let separators = Separators::Kept;
+        StatsdClientBuilder { client, prefix: prefix.to_string(), container: None, separators, telemetry: None }
     }
 
     /// Flushes the sink, which then sends the lines that it has buffered.
@@ -189,49 +214,25 @@ impl StatsdClient {
         self.settings.lend()
     }
 
-    /// Makes the line of a record, sends it, and returns its metric.
-    #[inline(never)]
-    pub(crate) fn send_record<T: Metric + From<String>>(&self, record: &Record<'_>) -> MetricResult<T> {
-        self.send_line(record.line())
-    }
-
-    /// Makes the line of a call without options, sends it, and returns its metric.
-    #[inline(always)]
-    fn send_plain<T: Metric + From<String>>(&self, kind: Kind, key: &str, value: MetricValue) -> MetricResult<T> {
-        match value {
-            MetricValue::Signed(number) => self.send_numbers(kind, key, Numbers::signed(&[number])),
-            MetricValue::PackedSigned(numbers) => self.send_numbers(kind, key, Numbers::signed(&numbers)),
-            MetricValue::Unsigned(number) => self.send_numbers(kind, key, Numbers::unsigned(&[number])),
-            MetricValue::PackedUnsigned(numbers) => self.send_numbers(kind, key, Numbers::unsigned(&numbers)),
-            MetricValue::Float(number) => self.send_numbers(kind, key, Numbers::floating(&[number])),
-            MetricValue::PackedFloat(numbers) => self.send_numbers(kind, key, Numbers::floating(&numbers)),
-        }
-    }
-
-    fn send_numbers<T: Metric + From<String>>(&self, kind: Kind, key: &str, numbers: Numbers<'_>) -> MetricResult<T> {
-        static NONE: Options<'static> = Options::new();
-        let settings = self.settings.lend();
-        let parts = Parts { settings, kind, key, numbers, options: &NONE };
-        self.send_line(parts.line(settings.size() + key.len()))
-    }
-
     #[inline]
-    fn send_line<T: Metric + From<String>>(&self, line: MetricResult<String>) -> MetricResult<T> {
-        let line = line?;
-        self.check()?;
-        let metric = T::from(line);
-        self.send_metric(&metric)?;
-        Ok(metric)
-    }
-
-    #[inline]
-    fn start<'a, T: Metric + From<String>>(
+    fn start<'a, T: OwnMetric + From<String>>(
         &'a self,
         kind: Kind,
         key: &'a str,
         value: MetricResult<MetricValue>,
     ) -> MetricBuilder<'a, 'a, T> {
-        MetricBuilder::new(value.map(|value| Record::new(self.settings.lend(), kind, key, value)), self)
+        self.start_value(kind, key, value.map(Value::Numbers))
+    }
+
+    #[inline]
+    pub(crate) fn start_value<'a, T: OwnMetric + From<String>>(
+        &'a self,
+        kind: Kind,
+        key: &'a str,
+        value: MetricResult<Value<'a>>,
+    ) -> MetricBuilder<'a, 'a, T> {
+        let record = value.map(|value| Record::new(self.settings.lend(), kind, key, value));
+        MetricBuilder::new(record, self, Self::send_record)
     }
 }
 
@@ -276,14 +277,7 @@ impl Sealed for StatsdClient {}
 impl MetricBackend for StatsdClient {
     #[inline]
     fn send_metric<M: Metric>(&self, metric: &M) -> MetricResult<()> {
-        match &self.telemetry {
-            None => self.sink.emit(metric.as_metric_str())?,
-            Some(telemetry) => {
-                telemetry.report(&*self.sink);
-                self.sink.emit(metric.as_metric_str()).inspect_err(|_| telemetry.count_refused())?
-            }
-        };
-        Ok(())
+        self.send_text(metric.as_metric_str())
     }
 
     fn consume_error(&self, err: MetricError) {
@@ -312,7 +306,7 @@ macro_rules! calls {
         {
             #[inline]
             fn $plain(&self, key: &str, value: T) -> MetricResult<$metric> {
-                self.send_plain(Kind::$metric, key, value.try_to_value()?)
+                self.send_plain(key, value.try_to_value()?)
             }
 
             #[inline]

@@ -4,5 +4,6 @@ pub use crate::client::MetricBackend;
 pub use crate::io::MultiLineWriter;
 pub use crate::sinks::{SocketStats, SpyReceiver};
 pub use crate::value::{
-    MetricValue, ToCounterValue, ToDistributionValue, ToGaugeValue, ToHistogramValue, ToMeterValue, ToSetValue, ToTimerValue,
+    MetricValue, ToCounterValue, ToDistributionValue, ToGaugeValue, ToHistogramValue, ToLevelValue, ToMeterValue, ToSetValue,
+    ToTimerValue,
 };

@@ -13,6 +13,8 @@ pub(crate) enum Kind {
     Histogram = 4,
     Set = 5,
     Distribution = 6,
+    /// A change of a gauge, in place of a kind.
+    Change = 7,
 }
 
 impl Kind {
@@ -52,12 +54,6 @@ impl<'a> Tag<'a> {
         let bytes = key.unwrap_or("").as_bytes();
         Tag { key: Slice::new(bytes), text: Slice::new(text.as_bytes()), keyed: key.is_some() }
     }
-
-    /// Returns how many bytes the tag has in a line, at most.
-    #[inline]
-    pub(crate) fn size(&self) -> usize {
-        self.key.len + 1 + self.text.len
-    }
 }
 
 impl fmt::Debug for Tag<'_> {
@@ -76,19 +72,34 @@ pub(crate) struct Settings<'a> {
     container: Slice<'a, u8>,
     contained: bool,
     strict: bool,
+    cleaned: bool,
+}
+
+/// What becomes of a separator in a text of a call.
+#[derive(Clone, Copy, PartialEq, Eq)]
+pub(crate) enum Separators {
+    /// It is printed as it is.
+    Kept,
+    /// The call is refused.
+    Refused,
+    /// It is printed as an underscore.
+    Cleaned,
+}
+
+impl Separators {
+    /// Returns whether settings are strict, and whether they clean texts.
+    #[inline]
+    pub(crate) fn words(self) -> (bool, bool) {
+        (self == Separators::Refused, self == Separators::Cleaned)
+    }
 }
 
 impl<'a> Settings<'a> {
     #[inline]
-    pub(crate) fn new(prefix: &'a str, tags: &'a str, container: Option<&'a str>, strict: bool) -> Settings<'a> {
+    pub(crate) fn new(prefix: &'a str, tags: &'a str, container: Option<&'a str>, separators: Separators) -> Settings<'a> {
         let [prefix, tags, text] = [prefix, tags, container.unwrap_or("")].map(|text| Slice::new(text.as_bytes()));
-        Settings { prefix, tags, container: text, contained: container.is_some(), strict }
-    }
-
-    /// Returns how many bytes the texts have.
-    #[inline]
-    pub(crate) fn size(&self) -> usize {
-        self.prefix.len + self.tags.len + self.container.len
+        let (strict, cleaned) = separators.words();
+        Settings { prefix, tags, container: text, contained: container.is_some(), strict, cleaned }
     }
 }
 
@@ -183,12 +194,6 @@ impl<'a> Options<'a> {
     #[inline(never)]
     pub(crate) fn set_rate(&mut self, rate: Decimal) {
         (self.rate, self.rated) = (rate, true);
-    }
-
-    /// Returns how many bytes the container has.
-    #[inline]
-    pub(crate) fn size(&self) -> usize {
-        self.container.len
     }
 }
 

@@ -40,8 +40,10 @@
 //!
 //! # What the crate `cadence` doesn't have
 //!
-//! [`StatsdClientBuilder::with_strict_texts`] makes a client that refuses texts with separators. [`StatsdClient::close`]
-//! waits until queued lines are sent, before the process ends. [`StatsdClient::timer`] times a scope. A queue's builder
+//! [`StatsdClientBuilder::with_strict_texts`] makes a client that refuses texts with separators, and
+//! [`StatsdClientBuilder::with_cleaned_texts`] one that sends each separator as an underscore. [`StatsdClient::close`] waits until queued lines are sent, before the process ends. [`StatsdClient::timer`] times a scope.
+//! [`StatsdClient::set_text`] adds a text to a set, [`StatsdClient::change`] changes a gauge, and
+//! [`StatsdClient::level`] sets it, also below 0. [`MetricBuilder::with_sampling`] sends a share of the calls. A queue's builder
 //! has a [policy](QueuingMetricSinkBuilder::with_policy) and a [period](QueuingMetricSinkBuilder::with_flush_period).
 //! [`AggregatingMetricSink`] adds lines up before it sends them, and adds numbers up by a [`LineKey`] without making a
 //! line. [`StatsdClient::event`] and [`StatsdClient::service_check`] send what DogStatsD has beside metrics. [`Environment`] is
@@ -79,9 +81,12 @@ mod client;
 mod environment;
 mod event;
 pub mod ext;
+#[allow(unsafe_code)]
+mod format;
 mod guard;
 mod io;
 mod layout;
+mod levels;
 mod line;
 mod metric_client;
 #[allow(unsafe_code)]
@@ -89,11 +94,14 @@ mod packer;
 pub mod prelude;
 #[allow(unsafe_code)]
 mod raw;
+mod sample;
 mod sinks;
 #[allow(unsafe_code)]
 mod sums;
 mod sync;
 mod telemetry;
+#[allow(unsafe_code)]
+mod text;
 mod types;
 mod value;
 

@@ -1,13 +1,12 @@
 // SPDX-License-Identifier: MIT OR Apache-2.0
-//! The library, called as C, and safe calls of it. The only `unsafe` code of the crate is here, in `packer.rs` and in `sums.rs`.
+//! The library, called as C, and safe calls of it. The only `unsafe` code of the crate is here, and in `format.rs`, `packer.rs`,
+//! `sums.rs` and `text.rs`.
 //!
 //! Each block is safe if the declarations fit `cadence.h` (a test compares the layouts), and if each pointer
 //! comes with the length of the memory that it points to.
-use crate::layout::{Decimal, Kind, Options, Settings, Tag, Variables};
+use crate::layout::{Decimal, Separators, Settings, Tag, Variables};
 use crate::types::{ErrorKind, MetricError, MetricResult};
-use crate::value::MetricValue;
 use std::alloc::{handle_alloc_error, Layout};
-use std::ffi::c_void;
 use std::marker::PhantomData;
 use std::mem::{self, MaybeUninit};
 use std::{io, slice};
@@ -46,28 +45,36 @@ pub(crate) struct OwnedSettings {
 }
 
 impl OwnedSettings {
-    /// Makes settings of a prefix, default tags, a default container, and whether they are strict. The error is a status,
-    /// which is `SEPARATOR` if they are strict and a text has a separator.
-    pub(crate) fn new(prefix: &str, tags: &[Tag<'_>], container: Option<&str>, strict: bool) -> Result<Self, u32> {
+    /// Makes settings of a prefix, default tags, a default container, and what becomes of a separator in a text. The error
+    /// is a status, which is `SEPARATOR` if such texts are refused and a text of these has a separator.
+    pub(crate) fn new(prefix: &str, tags: &[Tag<'_>], container: Option<&str>, separators: Separators) -> Result<Self, u32> {
         let text = container.unwrap_or_default();
-        // SAFETY: each pointer comes with the length of its slice. The first text is a part of the prefix and a dot, and the
-        // second one consists of texts in UTF-8 and of ASCII characters.
+        let (strict, cleaned) = separators.words();
+        // SAFETY: each pointer comes with the length of its slice. The first text is a part of the prefix and a dot, the
+        // second one consists of texts in UTF-8 and of ASCII characters, and the third one is in UTF-8. In a cleaned text some
+        // ASCII characters are underscores.
         let texts = unsafe {
             if strict && cadence_test_text(text.as_ptr(), text.len()) != OK {
                 return Err(SEPARATOR);
             }
             [
-                text_of(|out, room, size| cadence_prefix_text(prefix.as_ptr(), prefix.len(), strict, out, room, size))?,
-                text_of(|out, room, size| cadence_tags_text(tags.as_ptr(), tags.len(), strict, out, room, size))?,
-                text.to_string(),
+                text_of(0, |out, room, size| {
+                    cadence_prefix_text(prefix.as_ptr(), prefix.len(), strict, cleaned, out, room, size)
+                })?,
+                text_of(0, |out, room, size| cadence_tags_text(tags.as_ptr(), tags.len(), strict, cleaned, out, room, size))?,
+                if cleaned {
+                    text_of(0, |out, room, size| cadence_cleaned_text(text.as_ptr(), text.len(), out, room, size))?
+                } else {
+                    text.to_string()
+                },
             ]
         };
-        Ok(Self::of(texts, container.is_some(), strict))
+        Ok(Self::of(texts, container.is_some(), separators))
     }
 
-    fn of(texts: [String; 3], contained: bool, strict: bool) -> OwnedSettings {
+    fn of(texts: [String; 3], contained: bool, separators: Separators) -> OwnedSettings {
         let [prefix, tags, container] = texts.each_ref().map(String::as_str);
-        let lent = Settings::new(prefix, tags, contained.then_some(container), strict);
+        let lent = Settings::new(prefix, tags, contained.then_some(container), separators);
         // SAFETY: `lend` returns it only for as long as the texts are there.
         let lent = unsafe { mem::transmute::<Settings<'_>, Settings<'static>>(lent) };
         OwnedSettings { texts, lent }
@@ -87,7 +94,7 @@ impl OwnedSettings {
 
 impl Default for OwnedSettings {
     fn default() -> Self {
-        Self::of(Default::default(), false, false)
+        Self::of(Default::default(), false, Separators::Kept)
     }
 }
 
@@ -112,29 +119,27 @@ const UNFIT_TEXTS: [&str; 7] = [
     "bar in the message of a service check",
 ];
 
-/// Declares the calls that write a line, and their type. `values` points to numbers of the type that the call expects.
-macro_rules! formats {
-    ($arguments:tt $($name:ident)*) => {
-        type Format = unsafe extern "C" fn $arguments -> u32;
-
-        unsafe extern "C" {
-            $(fn $name $arguments -> u32;)*
-        }
-    };
-}
-
-formats! {
-    (
-        settings: *const Settings<'_>, kind: u32, key: *const u8, key_len: usize, values: *const c_void, values_len: usize,
-        options: *const Options<'_>, out: *mut u8, room: usize, size: *mut usize,
-    )
-    cadence_format_signed cadence_format_unsigned cadence_format_floating
-}
-
 unsafe extern "C" {
-    fn cadence_prefix_text(prefix: *const u8, len: usize, strict: bool, out: *mut u8, room: usize, size: *mut usize) -> u32;
-    fn cadence_tags_text(tags: *const Tag<'_>, len: usize, strict: bool, out: *mut u8, room: usize, size: *mut usize) -> u32;
+    fn cadence_prefix_text(
+        prefix: *const u8,
+        len: usize,
+        strict: bool,
+        cleaned: bool,
+        out: *mut u8,
+        room: usize,
+        size: *mut usize,
+    ) -> u32;
+    fn cadence_tags_text(
+        tags: *const Tag<'_>,
+        len: usize,
+        strict: bool,
+        cleaned: bool,
+        out: *mut u8,
+        room: usize,
+        size: *mut usize,
+    ) -> u32;
     fn cadence_test_text(text: *const u8, len: usize) -> u32;
+    fn cadence_cleaned_text(text: *const u8, len: usize, out: *mut u8, room: usize, size: *mut usize) -> u32;
     fn cadence_decimal_of_double(value: f64, number: *mut Decimal) -> u32;
     fn cadence_destination(
         variables: *const Variables<'_>,
@@ -170,7 +175,6 @@ unsafe extern "C" {
         variable: *mut u32,
     ) -> u32;
     fn cadence_variable_text(variable: u32, out: *mut u8, room: usize, size: *mut usize) -> u32;
-    fn cadence_c_lend(lent: bool);
 }
 
 /// Returns an error if a status isn't `OK`.
@@ -204,19 +208,13 @@ pub(crate) fn call_refusal(status: u32) -> MetricError {
     }
 }
 
-/// Returns the text that a call of the library writes. `call` gets a room of at least so many bytes, and how many it has; it
-/// returns a status, and sets the length of its text. If the status is `TOO_SMALL`, it gets a room of this length. Of any
-/// other status but `OK`, `refuse` makes the error.
+/// Returns the text that a call of the library writes, or its status. `call` gets a room of at least so many bytes, and how
+/// many it has; it returns a status, and sets the length of its text. If the status is `TOO_SMALL`, it gets a room of this
+/// length.
 ///
 /// # Safety
 /// If `call` returns `OK`, it has written that many bytes to the room, and they are UTF-8.
-// Inlined, because the call for a line would save and load all registers.
-#[inline(always)]
-unsafe fn text_in<E>(
-    mut least: usize,
-    refuse: impl Fn(u32) -> E,
-    mut call: impl FnMut(*mut u8, usize, &mut usize) -> u32,
-) -> Result<String, E> {
+pub(crate) unsafe fn text_of(mut least: usize, mut call: impl FnMut(*mut u8, usize, &mut usize) -> u32) -> Result<String, u32> {
     loop {
         let (mut bytes, mut size) = (Vec::<u8>::with_capacity(least), 0);
         match call(bytes.as_mut_ptr(), bytes.capacity(), &mut size) {
@@ -228,18 +226,9 @@ unsafe fn text_in<E>(
                 });
             }
             TOO_SMALL => least = size,
-            status => return Err(refuse(status)),
+            status => return Err(status),
         }
     }
-}
-
-/// Returns the text that a call writes, or its status.
-///
-/// # Safety
-/// As for `text_in`.
-unsafe fn text_of(call: impl FnMut(*mut u8, usize, &mut usize) -> u32) -> Result<String, u32> {
-    // SAFETY: as the caller promises.
-    unsafe { text_in(0, |status| status, call) }
 }
 
 /// Returns the decimal of a rate. It fails with `InvalidInput` if the rate is NaN or infinite, or if its decimal needs more
@@ -258,11 +247,11 @@ pub(crate) fn decimal_of(rate: f64) -> MetricResult<Decimal> {
 /// sets. If memory has run out, the process ends, as it does for a `Vec`.
 ///
 /// # Safety
-/// As for `text_in`.
+/// As for `text_of`.
 unsafe fn said(mut call: impl FnMut(*mut u8, usize, &mut usize, &mut u32) -> u32) -> Result<String, u32> {
     let mut variable = 0;
     // SAFETY: as the caller promises.
-    unsafe { text_of(|out, room, size| call(out, room, size, &mut variable)) }.map_err(|status| match status {
+    unsafe { text_of(0, |out, room, size| call(out, room, size, &mut variable)) }.map_err(|status| match status {
         VARIABLE => variable,
         _ => handle_alloc_error(Layout::new::<String>()),
     })
@@ -304,7 +293,7 @@ pub(crate) fn environment_tags(variables: &Variables<'_>) -> Result<String, u32>
 /// Returns the message for the variable of this number: its name, and what its value has to be.
 pub(crate) fn variable_text(variable: u32) -> String {
     // SAFETY: the call only writes to the room, and what it writes is ASCII.
-    unsafe { text_of(|out, room, size| cadence_variable_text(variable, out, room, size)) }.unwrap_or_default()
+    unsafe { text_of(0, |out, room, size| cadence_variable_text(variable, out, room, size)) }.unwrap_or_default()
 }
 
 /// How many tags of a call need no memory of their own.
@@ -357,77 +346,4 @@ fn more_tags<'a>(mut more: Vec<Tag<'a>>, first: [MaybeUninit<Tag<'a>>; FIRST], t
     }
     more.push(tag);
     more
-}
-
-/// The numbers of a value as the library reads them: the call for their type, where they are, and how many there are.
-pub(crate) struct Numbers<'a> {
-    format: Format,
-    at: *const c_void,
-    len: usize,
-    of: PhantomData<&'a MetricValue>,
-}
-
-impl<'a> Numbers<'a> {
-    #[inline]
-    pub(crate) fn new(value: &'a MetricValue) -> Self {
-        match value {
-            MetricValue::Signed(number) => Self::signed(slice::from_ref(number)),
-            MetricValue::PackedSigned(numbers) => Self::signed(numbers),
-            MetricValue::Unsigned(number) => Self::unsigned(slice::from_ref(number)),
-            MetricValue::PackedUnsigned(numbers) => Self::unsigned(numbers),
-            MetricValue::Float(number) => Self::floating(slice::from_ref(number)),
-            MetricValue::PackedFloat(numbers) => Self::floating(numbers),
-        }
-    }
-
-    #[inline]
-    pub(crate) fn signed(numbers: &'a [i64]) -> Self {
-        Numbers { format: cadence_format_signed, at: numbers.as_ptr().cast(), len: numbers.len(), of: PhantomData }
-    }
-
-    #[inline]
-    pub(crate) fn unsigned(numbers: &'a [u64]) -> Self {
-        Numbers { format: cadence_format_unsigned, at: numbers.as_ptr().cast(), len: numbers.len(), of: PhantomData }
-    }
-
-    #[inline]
-    pub(crate) fn floating(numbers: &'a [f64]) -> Self {
-        Numbers { format: cadence_format_floating, at: numbers.as_ptr().cast(), len: numbers.len(), of: PhantomData }
-    }
-}
-
-/// How many bytes a number has in a line at most, which is so many for a decimal of 30 places.
-const NUMBER: usize = 33;
-
-/// How many bytes a line has at most beside its texts and its values: the kind, the rate, the time and the characters
-/// between the parts.
-const REST: usize = 2 * NUMBER + 16;
-
-/// What a line is made of, as the library reads it.
-pub(crate) struct Parts<'a> {
-    pub(crate) settings: &'a Settings<'a>,
-    pub(crate) kind: Kind,
-    pub(crate) key: &'a str,
-    pub(crate) numbers: Numbers<'a>,
-    pub(crate) options: &'a Options<'a>,
-}
-
-impl Parts<'_> {
-    /// Returns the line, whose texts have at most so many bytes. It fails with `InvalidInput` if the settings are strict and
-    /// a text of the call has a separator, or if a float is NaN, infinite or too large.
-    #[inline(always)]
-    pub(crate) fn line(self, texts: usize) -> MetricResult<String> {
-        let Parts { settings, kind, key, numbers: Numbers { format, at, len, .. }, options } = self;
-        // SAFETY: each pointer comes with the length of its slice, `format` is the call for the type of the numbers, the call
-        // only writes to the room, and it keeps no pointer. A line consists of texts in UTF-8 and of ASCII characters. While
-        // the room of `heap.c` is lent, the call gets its memory from there; it frees that before it returns.
-        unsafe {
-            text_in(texts + len * (NUMBER + 1) + REST, call_refusal, |out, room, size| {
-                cadence_c_lend(true);
-                let status = format(settings, kind as u32, key.as_ptr(), key.len(), at, len, options, out, room, size);
-                cadence_c_lend(false);
-                status
-            })
-        }
-    }
 }

@@ -1,8 +1,9 @@
 // SPDX-License-Identifier: MIT OR Apache-2.0
 //! The counts of a client, which it sends as counters of its own.
 use crate::client::StatsdClientBuilder;
+use crate::format::{Numbers, Parts};
 use crate::layout::{Kind, Options};
-use crate::raw::{Numbers, OwnedSettings, Parts};
+use crate::raw::OwnedSettings;
 use crate::sinks::MetricSink;
 use std::sync::atomic::{AtomicU64, Ordering};
 use std::sync::Mutex;
@@ -57,8 +58,8 @@ impl Telemetry {
     fn send(&self, sink: &dyn MetricSink, key: &str, number: u64) -> bool {
         static NONE: Options<'static> = Options::new();
         let (settings, numbers) = (self.settings.lend(), [number]);
-        let parts = Parts { settings, kind: Kind::Counter, key, numbers: Numbers::unsigned(&numbers), options: &NONE };
-        parts.line(settings.size() + key.len()).is_ok_and(|line| sink.emit(&line).is_ok())
+        let parts = Parts { settings, kind: Kind::Counter, key, numbers: Numbers::new(&numbers), options: &NONE };
+        parts.text().is_ok_and(|line| sink.emit(line.as_str()).is_ok())
     }
 }
 

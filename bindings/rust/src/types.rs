@@ -1,7 +1,8 @@
 // SPDX-License-Identifier: MIT OR Apache-2.0
 //! The metric types, and the errors of calls.
-use crate::layout::{Kind, Settings};
-use crate::line::Record;
+use crate::layout::{Kind, Separators, Settings};
+use crate::line::{Record, Value};
+use crate::text::Text;
 use crate::value::MetricValue;
 use std::alloc::{handle_alloc_error, Layout};
 use std::{error, fmt, io};
@@ -12,13 +13,20 @@ pub trait Metric {
     fn as_metric_str(&self) -> &str;
 }
 
+/// A metric of this crate, which is made of its text.
+pub(crate) trait OwnMetric: Metric + Sized {
+    const KIND: Kind;
+
+    fn of_text(text: Text) -> Self;
+}
+
 /// Returns the line of a metric's constructor. If memory runs out, the process ends, as it does for a `Vec`.
-fn line_of(prefix: &str, kind: Kind, key: &str, value: MetricValue) -> String {
-    let settings = Settings::new(prefix, "", None, false);
-    let record = Record::new(&settings, kind, key, value);
-    match record.line().map_err(|error| error.kind()) {
-        Ok(line) => line,
-        Err(ErrorKind::InvalidInput) => format!("{prefix}{key}:{}|{}", record.value, kind.text()),
+fn line_of(prefix: &str, kind: Kind, key: &str, value: MetricValue) -> Text {
+    let settings = Settings::new(prefix, "", None, Separators::Kept);
+    let record = Record::new(&settings, kind, key, Value::Numbers(value));
+    match record.text().map_err(|error| error.kind()) {
+        Ok(text) => text,
+        Err(ErrorKind::InvalidInput) => format!("{prefix}{key}:{}|{}", record.value(), kind.text()).into(),
         Err(ErrorKind::IoError) => handle_alloc_error(Layout::new::<String>()),
     }
 }
@@ -32,27 +40,37 @@ macro_rules! metric {
         /// refuses as Rust prints it, for example as `NaN`.
         #[derive(PartialEq, Eq, Debug, Hash, Clone)]
         pub struct $name {
-            repr: String,
+            repr: Text,
         }
 
         impl $name {
             $(
                 #[doc = concat!("Makes a metric of a prefix, a key and a value of the type `", stringify!($type), "`.")]
                 pub fn $new(prefix: &str, key: &str, value: $type) -> Self {
-                    Self::from(line_of(prefix, Kind::$name, key, MetricValue::$value(value)))
+                    Self::of_text(line_of(prefix, Kind::$name, key, MetricValue::$value(value)))
                 }
             )*
         }
 
         impl From<String> for $name {
             fn from(repr: String) -> Self {
+                Self::of_text(repr.into())
+            }
+        }
+
+        impl OwnMetric for $name {
+            const KIND: Kind = Kind::$name;
+
+            #[inline]
+            fn of_text(repr: Text) -> Self {
                 $name { repr }
             }
         }
 
         impl Metric for $name {
+            #[inline]
             fn as_metric_str(&self) -> &str {
-                &self.repr
+                self.repr.as_str()
             }
         }
     };

@@ -30,6 +30,17 @@ pub enum MetricValue {
     PackedFloat(Vec<f64>),
 }
 
+impl MetricValue {
+    /// Returns whether it is one number below 0.
+    pub(crate) fn is_below_zero(&self) -> bool {
+        match self {
+            MetricValue::Signed(number) => *number < 0,
+            MetricValue::Float(number) => *number < 0.0,
+            _ => false,
+        }
+    }
+}
+
 fn join<T: fmt::Display>(f: &mut fmt::Formatter<'_>, values: &[T]) -> fmt::Result {
     for (index, value) in values.iter().enumerate() {
         if index > 0 {
@@ -107,6 +118,17 @@ value_trait! {
     /// The types that a gauge accepts: `u64` and `f64`.
     ToGaugeValue:
     u64 => |n| Ok(MetricValue::Unsigned(n));
+    f64 => |x| Ok(MetricValue::Float(x));
+}
+
+value_trait! {
+    /// The types that a change of a gauge and a gauge that may be below 0 accept: `i64`, `i32`, `u64`, `u32` and `f64`. The
+    /// crate `cadence` doesn't have this trait.
+    ToLevelValue:
+    i64 => |n| Ok(MetricValue::Signed(n));
+    i32 => |n| Ok(MetricValue::Signed(n.into()));
+    u64 => |n| Ok(MetricValue::Unsigned(n));
+    u32 => |n| Ok(MetricValue::Unsigned(n.into()));
     f64 => |x| Ok(MetricValue::Float(x));
 }
 

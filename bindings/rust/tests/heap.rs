@@ -15,7 +15,7 @@ struct Block {
 }
 
 unsafe extern "C" {
-    fn cadence_c_lend(lent: bool);
+    fn cadence_c_lend() -> *mut usize;
     fn cadence_c_alloc(size: usize, align: usize) -> Block;
     fn cadence_c_realloc(at: *mut u8, old_size: usize, size: usize, align: usize) -> Block;
     fn cadence_c_dealloc(at: *mut u8);
@@ -29,10 +29,10 @@ fn alloc(size: usize, align: usize) -> Block {
 /// Lends the room to a call that keeps no memory.
 fn lent<R>(call: impl FnOnce() -> R) -> R {
     // SAFETY: no memory is left of an earlier call.
-    unsafe { cadence_c_lend(true) };
+    let left = unsafe { cadence_c_lend() };
     let answer = call();
-    // SAFETY: the call has freed what it requested.
-    unsafe { cadence_c_lend(false) };
+    // SAFETY: the call has freed what it requested, and the place is one of this thread.
+    unsafe { left.write(0) };
     answer
 }
 

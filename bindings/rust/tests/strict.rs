@@ -85,18 +85,23 @@ fn assert_unusable(lines: &Lines, builders: &[&dyn Fn() -> StatsdClientBuilder])
 fn a_client_that_has_a_separator_itself_refuses_each_call() {
     let lines = Lines::default();
     for text in HOSTILE.into_iter().chain(COLONS) {
-        assert_unusable(&lines, &[
-            &|| StatsdClient::builder(text, lines.clone()).with_strict_texts(),
-            &|| strict(&lines).with_tag(text, "v"),
-            &|| strict(&lines).with_tag_value(text),
-            &|| strict(&lines).with_container_id(text),
-        ]);
+        assert_unusable(
+            &lines,
+            &[
+                &|| StatsdClient::builder(text, lines.clone()).with_strict_texts(),
+                &|| strict(&lines).with_tag(text, "v"),
+                &|| strict(&lines).with_tag_value(text),
+                &|| strict(&lines).with_container_id(text),
+            ],
+        );
     }
     for text in HOSTILE {
-        assert_unusable(&lines, &[
-            &|| strict(&lines).with_tag("k", text),
-            &|| StatsdClient::builder("p", lines.clone()).with_tag("k", text).with_strict_texts(),
-        ]);
+        assert_unusable(
+            &lines,
+            &[&|| strict(&lines).with_tag("k", text), &|| {
+                StatsdClient::builder("p", lines.clone()).with_tag("k", text).with_strict_texts()
+            }],
+        );
     }
     assert!(strict(&Lines::default()).with_tag("k", "v").try_build().is_ok());
 }

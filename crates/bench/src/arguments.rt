@@ -43,6 +43,8 @@ pub enum Emitting {
     Queue,
     /// Lines of several callers into a queue.
     Callers,
+    /// Lines of several callers that a full queue refuses.
+    Refused,
     /// Lines of several callers into a buffered UDP sink.
     UdpCallers,
 }
@@ -69,7 +71,7 @@ pub enum Mode {
 }
 
 // The modes, each with its word.
-const MODES: [(Mode, &str); 21] = [
+const MODES: [(Mode, &str); 22] = [
     (Mode::Client(Calling::Count), "count"),
     (Mode::Client(Calling::CountTags), "count_tags"),
     (Mode::Client(Calling::Options), "options"),
@@ -87,6 +89,7 @@ const MODES: [(Mode, &str); 21] = [
     (Mode::Emit(Emitting::Udp), "udp"),
     (Mode::Emit(Emitting::Queue), "queue"),
     (Mode::Emit(Emitting::Callers), "callers"),
+    (Mode::Emit(Emitting::Refused), "refused"),
     (Mode::Emit(Emitting::UdpCallers), "udp_callers"),
     (Mode::Service, "service"),
     (Mode::Keys(false), "keys"),
@@ -128,7 +131,7 @@ pub const USAGE: &str = "bench count|count_tags|options|strict_tags|histogram4 N
 bench tags|dtags|values|key|keys|keys_tags N [SIZE]
 bench packer|udp|queue N [CAP LEN]
 bench read|read_full|read_arena|read_full_arena N [CAP LEN]
-bench callers|udp_callers N [CAP LEN CALLERS]
+bench callers|refused|udp_callers N [CAP LEN CALLERS]
 bench service N [CAP CALLERS]";
 
 // A run over UDP sends this many lines at most.

@@ -1,9 +1,11 @@
 //! Emits lines into queues, and into sinks from several threads at the same time.
 
 use crate::arguments::{Arguments, Emitting};
-use crate::done::{Accepted, BlackBox, Done};
+use crate::done::{Accepted, BlackBox, Done, Note};
 use crate::packets::make_line;
-use crate::sinks::{done_by, emit_to_udp, make_buffered_sink, make_queue, wait_until_drained};
+use crate::sinks::{
+    GatedSink, done_by, emit_to_udp, make_buffered_sink, make_queue, wait_until_drained,
+};
 use cadence::prelude::*;
 use cadence::{
     BufferedUdpMetricSink, MetricResult, MetricSink, NopMetricSink, QueuingMetricSink, StatsdClient,
@@ -11,7 +13,7 @@ use cadence::{
 use std::alloc::Global;
 use std::io;
 use std::net::{Net, UdpSocket};
-use std::sync::{Barrier, Wait};
+use std::sync::{Arc, Barrier, Mutex, Wait};
 use std::thread::{self, Threads};
 use std::time::{Clock, Duration, Instant};
 
@@ -120,6 +122,39 @@ fn emit_to_queue<R: Clock + Wait + Threads + Clone + Drop + Send + Sync + 'stati
     Ok(accepted.into_done(arguments.capacity, drained))
 }
 
+// Emits lines of several callers that a full queue refuses. Its worker sleeps in the sink, so that it takes no line and no
+// processor.
+fn emit_to_full_queue<R: Clock + Wait + Threads + Clone + Drop + Send + Sync + 'static>(
+    rt: &R,
+    alloc: Global,
+    arguments: &Arguments,
+) -> MetricResult<Done> {
+    let line = make_line(alloc, arguments.length)?;
+    let gate = Arc::new(alloc, Mutex::new(()))?;
+    let closed = gate.lock(rt);
+    let sink = GatedSink::new(rt.clone()?, gate.clone()?);
+    let queue = make_queue(rt, alloc, sink, arguments.capacity.max(1))?;
+    queue.emit(&line)?;
+    wait_until_drained(rt, &queue, 1);
+    for _ in rt.forever() {
+        if queue.emit(&line).is_err() {
+            break;
+        }
+    }
+    let emit = EmitLine {
+        sink: &queue,
+        line: &line,
+    };
+    let accepted = run_together(rt, alloc, arguments, &emit)?;
+    drop(closed);
+    queue.stop_and_wait();
+    Ok(Done {
+        time: accepted.time,
+        check: accepted.lines,
+        note: Note::Nothing,
+    })
+}
+
 // Emits lines of several callers into a buffered UDP sink.
 fn emit_together_to_udp<R: Clock + Net + Wait + Threads + Clone + Drop + Send + Sync>(
     rt: &R,
@@ -195,6 +230,7 @@ pub fn emit<R: Clock + Net + Wait + Threads + Clone + Drop + Send + Sync + 'stat
     match what {
         Emitting::Udp => emit_to_udp(rt, alloc, arguments),
         Emitting::Queue | Emitting::Callers => emit_to_queue(rt, alloc, arguments),
+        Emitting::Refused => emit_to_full_queue(rt, alloc, arguments),
         Emitting::UdpCallers => emit_together_to_udp(rt, alloc, arguments),
     }
 }

@@ -4,10 +4,11 @@ use crate::arguments::Arguments;
 use crate::done::{BlackBox, Done, Note};
 use crate::packets::make_line;
 use cadence::sinks::Target;
+use cadence::types::SinkError;
 use cadence::{BufferedUdpMetricSink, MetricResult, MetricSink, QueuingMetricSink};
 use std::alloc::Global;
 use std::net::{Ipv4Addr, Net, SocketAddr, UdpSocket};
-use std::sync::Wait;
+use std::sync::{Arc, Mutex, Wait};
 use std::thread::{self, Threads};
 use std::time::{Clock, Duration, Instant};
 
@@ -90,4 +91,29 @@ pub fn wait_until_drained<S: MetricSink, R: Wait + Drop>(
         }
         thread::yield_now();
     }
+}
+
+/// A sink whose calls sleep until the lock is free.
+#[derive(Drop)]
+pub struct GatedSink<R: Wait + Drop> {
+    rt: R,
+    gate: Arc<Mutex<()>>,
+}
+
+impl<R: Wait + Drop> GatedSink<R> {
+    /// Makes a sink with this gate.
+    pub fn new(rt: R, gate: Arc<Mutex<()>>) -> GatedSink<R> {
+        GatedSink { rt, gate }
+    }
+}
+
+impl<R: Wait + Drop> MetricSink for GatedSink<R> {
+    ghost may_answer = { λ _ _ _. Unit {0} };
+
+    fn emit(&self, line: &str) -> Result<usize, SinkError> {
+        let _open = self.gate.lock(&self.rt);
+        Ok(line.len())
+    }
+
+    ghost flush_may_succeed = { λ _ _. tt };
 }

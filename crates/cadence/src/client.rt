@@ -1,7 +1,7 @@
-//! The client (`statsd_client`) and its builder (`client_builder`), the traits of its metrics (`traits`, all as one in
-//! `metric_client`) and their builder (`builder`), its events (`event_builder`) and service checks
-//! (`service_check_builder`) and what both share (`lined_builder`), how a metric is sent (`backend`), receivers of errors
-//! (`handler`).
+//! The client (`statsd_client`) and its builder (`client_builder`), the traits of its metrics (`traits`, `text_traits` for
+//! values that are texts, all as one in `metric_client`), their builder (`builder`) and how it is sent (`sending`), its
+//! events (`event_builder`) and service checks (`service_check_builder`) and what both share (`lined_builder`), how a
+//! metric is sent (`backend`), receivers of errors (`handler`).
 
 mod backend;
 mod builder;
@@ -10,8 +10,10 @@ mod event_builder;
 mod handler;
 mod lined_builder;
 mod metric_client;
+mod sending;
 mod service_check_builder;
 mod statsd_client;
+mod text_traits;
 mod traits;
 
 pub use backend::MetricBackend;
@@ -25,4 +27,5 @@ pub use lined_builder::LinedBuilder;
 pub use metric_client::MetricClient;
 pub use service_check_builder::ServiceCheckBuilder;
 pub use statsd_client::{BoxedSink, StatsdClient};
+pub use text_traits::{GaugedExt, SettedExt};
 pub use traits::{Counted, CountedExt, Distributed, Gauged, Histogrammed, Metered, Setted, Timed};

@@ -26,6 +26,7 @@ pub mod types;
 pub use cadence_flow::io;
 pub use cadence_resolve::{DEFAULT_PORT, Runtime};
 pub use cadence_text::line;
+pub use cadence_value::chance::Chance;
 pub use cadence_value::value;
 pub use client::{
     AlertType, BoxedHandler, ErrorHandler, EventBuilder, MetricBuilder, Priority,
@@ -33,7 +34,8 @@ pub use client::{
 };
 pub use decimal::Decimal;
 pub use prelude::{
-    Counted, CountedExt, Distributed, Gauged, Histogrammed, Metered, MetricClient, Setted, Timed,
+    Counted, CountedExt, Distributed, Gauged, GaugedExt, Histogrammed, Metered, MetricClient,
+    Setted, SettedExt, Timed,
 };
 pub use queue::QueuePolicy;
 pub use ready::host;

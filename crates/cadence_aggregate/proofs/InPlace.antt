@@ -1,5 +1,5 @@
 -- A server knows the same whether a value is written in the place of its entry, or at the front of the table.
-use Rattle.std.specs.Prelude.{String, string_bytes, ℤ, ◌≤◌}
+use Rattle.std.specs.Prelude.{String, string_bytes, ℤ}
 use Rattle.std.proofs.Common.{◌≡◌, ℕ, Bool, true, false, cond, List, [], ◌∷◌, ◌++◌, Option, Some, None, refl, sym, ap, subst, ◌∙◌, append_assoc, append-nil}
 use Rattle.std.specs.Map.{lookup, lookup_entry, remove_entry, set_value}
 use Rattle.lru.specs.LruCache.{promoted}

@@ -1,17 +1,16 @@
 -- What the lines of a run say, one step further.
-use Rattle.std.proofs.Common.{◌≡◌, ℕ, List, [], ◌∷◌, ◌++◌, length, refl, sym, ap, ◌∙◌, arith, append_assoc, append-nil}
+use Rattle.std.proofs.Common.{◌≡◌, ℕ, List, [], ◌∷◌, ◌++◌, length, sym, ap, ◌∙◌, arith, append_assoc, append-nil}
 use Rattle.std.specs.Prelude.{Result}
 use Rattle.cadence_aggregate.specs.Aggregate.{accepted_samples, said_by}
-use Rattle.cadence_aggregate.specs.Refusals.{after_reply, after_replies}
 use Rattle.cadence_aggregate.specs.Server.{Sample, IsSummary}
 use Rattle.cadence_aggregate.specs.Within.{StayWithin}
 use Rattle.cadence_aggregate.specs.declared.runs.Step.{Step}
-use Rattle.cadence_aggregate.specs.declared.sink.Fault.{Fault}
+use Rattle.cadence_errors.specs.declared.SinkError.{SinkError}
 use Rattle.cadence_aggregate.proofs.Observed.{same_of, same_trans, same_more}
 use Rattle.cadence_aggregate.proofs.Within.{stay_further, stay_more, stay_same}
 
 abbrev Reply : Type 0
-Reply = Result (Unit {0}) Fault
+Reply = Result (Unit {0}) SinkError
 
 pub accepted_snoc : (xs : List Step) (rs : List Reply) (x : Step) (r : Reply) → length rs ≡ length xs → accepted_samples (xs ++ x ∷ []) (rs ++ r ∷ []) ≡ accepted_samples xs rs ++ said_by x r
 accepted_snoc [] [] x r h = append-nil (said_by x r)
@@ -37,8 +36,3 @@ step_within limit before past now xs rs x r h a b =
     let same : parts ≡ whole = sym (ap (λ t. before ++ t) (accepted_snoc xs rs x r h) ∙ sym (append_assoc before (accepted_samples xs rs) (said_by x r))) in
     stay_further limit whole parts now (stay_same limit whole parts same)
     (stay_further limit parts (past ++ said_by x r) now (stay_more limit (before ++ accepted_samples xs rs) past (said_by x r) a) b)
-
--- the refusals after one more reply
-pub refused_more : (first : ℕ) (rs : List Reply) (r : Reply) → after_replies first (rs ++ r ∷ []) ≡ after_reply (after_replies first rs) r
-refused_more first [] r = refl
-refused_more first (q ∷ rs) r = refused_more (after_reply first q) rs r

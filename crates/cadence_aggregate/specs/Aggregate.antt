@@ -10,7 +10,7 @@ use Rattle.cadence_aggregate.specs.declared.line.Line.{Line}
 use Rattle.cadence_aggregate.specs.declared.line.Line.TheVariants.{Amount, Level, Member, Timing, Unclear, Other}
 use Rattle.cadence_aggregate.specs.declared.runs.Step.{Step}
 use Rattle.cadence_aggregate.specs.declared.runs.Step.TheVariants.{Add, Flush}
-use Rattle.cadence_aggregate.specs.declared.sink.Fault.{Fault}
+use Rattle.cadence_errors.specs.declared.SinkError.{SinkError}
 
 -- what the lines say that the next flush sends first: as many of each kind as the last flush left, the oldest ones
 abbrev pub held_first : Aggregator → List Sample
@@ -54,13 +54,13 @@ CanHold a (Unclear line) = ⊥
 CanHold a (Other line) = ⊥
 
 -- what a step says: what its line says, if it was accepted
-abbrev pub said_by : Step → Result (Unit {0}) Fault → List Sample
+abbrev pub said_by : Step → Result (Unit {0}) SinkError → List Sample
 said_by (Add line) (Ok done) = samples_of line
-said_by (Add line) (Err fault) = []
+said_by (Add line) (Err e) = []
 said_by Flush reply = []
 
 -- what the accepted lines of a run say, in order, given the replies of its steps
-abbrev pub accepted_samples : List Step → List (Result (Unit {0}) Fault) → List Sample
+abbrev pub accepted_samples : List Step → List (Result (Unit {0}) SinkError) → List Sample
 accepted_samples [] replies = []
 accepted_samples (step ∷ steps) [] = []
 accepted_samples (step ∷ steps) (reply ∷ replies) = said_by step reply ++ accepted_samples steps replies

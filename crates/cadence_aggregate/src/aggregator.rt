@@ -1,11 +1,11 @@
 //! Adds up what lines say of each context, and sends one line for each context at a flush.
 ghost use Rattle.std.specs.NonZero.{non_zero_usize_get};
+ghost use Rattle.std.specs.Option.{ok_or};
 ghost use Rattle.std.specs.Prelude.{◌≡◌, ◌+◌, ◌++◌, [], OnOk, OnErr, IfOk, length};
 ghost use Rattle.cadence_aggregate.specs.Aggregate.{CanHold, HasDistinct, HasRoomForEach, held, held_after, held_first};
 ghost use Rattle.cadence_aggregate.specs.Fewest.{AreFewest};
 ghost use Rattle.cadence_aggregate.specs.Held.{none_due};
 ghost use Rattle.cadence_aggregate.specs.Lines.{samples_of};
-ghost use Rattle.cadence_aggregate.specs.Refusals.{after_reply};
 ghost use Rattle.cadence_aggregate.specs.Server.{IsSummary};
 ghost use Rattle.cadence_aggregate.specs.Within.{StayWithin, if_ok};
 
@@ -13,9 +13,10 @@ use crate::due::Due;
 use crate::levels::{send_after, send_due_levels, set_level};
 use crate::line::Line;
 use crate::members::{add_member, send_due_members};
-use crate::sink::{Fault, LineSink};
+use crate::sink::LineSink;
 use crate::sums::{add_amount, send_due_sums};
 use crate::timings::{add_timing, send_due_timings};
+use cadence_errors::SinkError;
 use lru::LruCache;
 use std::alloc::{AllocError, Global};
 use std::num::NonZeroUsize;
@@ -64,32 +65,51 @@ impl Aggregator {
     /// - The sum would overflow, or the line of the values would be too long: the sum or the values so far are sent.
     ///
     /// # Errors
-    /// `Refused` if the sink refused a line, and `OutOfMemory`. After an error the line is not added, and what was held
-    /// is sent or still held.
-    pub fn add<S: LineSink>(&mut self, sink: &mut S, line: Line<'_>) -> Result<(), Fault>
-        ensures ok { OnOk result (IsSummary
+    /// The error of the sink, if it refused a line that had to be sent, and `OutOfMemory`. After an error the result is
+    /// `None` and `fault` has the error. The line is not added then, and what was held is sent or still held.
+    pub fn add<S: LineSink>(
+        &mut self,
+        sink: &mut S,
+        line: Line<'_>,
+        fault: &mut SinkError,
+    ) -> Option<()>
+        ensures ok { OnOk (ok_or result fault.new) (IsSummary
             ((S.sent sink.old ++ held self.old) ++ samples_of line.entry)
             (S.sent sink.new ++ held self.new)) }
-        ensures err { OnErr result (IsSummary
+        ensures err { OnErr (ok_or result fault.new) (IsSummary
             (S.sent sink.old ++ held self.old) (S.sent sink.new ++ held self.new)) }
         ensures quiet { CanHold self.old line.entry → S.sent sink.new ≡ S.sent sink.old }
-        ensures refused { S.refusals sink.new ≡ after_reply (S.refusals sink.old) result }
-        ensures leads { S.leads sink.old sink.new }
+        ensures leads { S.leads sink.old (ok_or result fault.new) sink.new }
         ensures limit { self.new.most_bytes ≡ self.old.most_bytes }
         ensures within { StayWithin self.old.most_bytes
-            ((S.sent sink.old ++ held self.old) ++ if_ok result (samples_of line.entry))
+            ((S.sent sink.old ++ held self.old)
+            ++ if_ok (ok_or result fault.new) (samples_of line.entry))
             (S.sent sink.new ++ held self.new) }
     {
         match line {
-            Line::Amount(context, by) => add_amount(self.alloc, &mut self.sums, sink, context, by),
+            Line::Amount(context, by) => add_amount(
+                self.alloc,
+                &mut self.sums,
+                sink,
+                context,
+                by,
+                fault,
+            ),
             Line::Level(context, value) => set_level(
                 self.alloc,
                 &mut self.levels,
                 sink,
                 context,
                 value,
+                fault,
             ),
-            Line::Member(context) => add_member(self.alloc, &mut self.members, sink, context),
+            Line::Member(context) => add_member(
+                self.alloc,
+                &mut self.members,
+                sink,
+                context,
+                fault,
+            ),
             Line::Timing(context, values) => {
                 add_timing(
                     self.alloc,
@@ -98,9 +118,10 @@ impl Aggregator {
                     context,
                     values,
                     self.most_bytes,
+                    fault,
                 )
             }
-            Line::Unclear(_) | Line::Other(_) => self.pass(sink, line),
+            Line::Unclear(_) | Line::Other(_) => self.pass(sink, line, fault),
         }
     }
 
@@ -108,30 +129,35 @@ impl Aggregator {
     /// values of gauges are sent first.
     ///
     /// # Errors
-    /// The error of the sink, if it did not take a line. Then this line is not added, and what was held is sent or
-    /// still held.
-    pub fn pass<S: LineSink>(&mut self, sink: &mut S, line: Line<'_>) -> Result<(), Fault>
-        ensures ok { OnOk result (IsSummary
+    /// The error of the sink, if it did not take a line. Then the result is `None` and `fault` has the error. This line
+    /// is not added then, and what was held is sent or still held.
+    pub fn pass<S: LineSink>(
+        &mut self,
+        sink: &mut S,
+        line: Line<'_>,
+        fault: &mut SinkError,
+    ) -> Option<()>
+        ensures ok { OnOk (ok_or result fault.new) (IsSummary
             ((S.sent sink.old ++ held self.old) ++ samples_of line.entry)
             (S.sent sink.new ++ held self.new)) }
-        ensures err { OnErr result (IsSummary
+        ensures err { OnErr (ok_or result fault.new) (IsSummary
             (S.sent sink.old ++ held self.old) (S.sent sink.new ++ held self.new)) }
-        ensures refused { S.refusals sink.new ≡ after_reply (S.refusals sink.old) result }
-        ensures leads { S.leads sink.old sink.new }
+        ensures leads { S.leads sink.old (ok_or result fault.new) sink.new }
         ensures limit { self.new.most_bytes ≡ self.old.most_bytes }
         ensures within { StayWithin self.old.most_bytes
-            ((S.sent sink.old ++ held self.old) ++ if_ok result (samples_of line.entry))
+            ((S.sent sink.old ++ held self.old)
+            ++ if_ok (ok_or result fault.new) (samples_of line.entry))
             (S.sent sink.new ++ held self.new) }
     {
         match line {
-            Line::Amount(context, by) => sink.send(Line::Amount(context, by)),
+            Line::Amount(context, by) => sink.send(Line::Amount(context, by), fault),
             Line::Level(context, value) => {
-                send_after(&mut self.levels, sink, Line::Level(context, value))
+                send_after(&mut self.levels, sink, Line::Level(context, value), fault)
             }
-            Line::Member(context) => sink.send(Line::Member(context)),
-            Line::Timing(context, values) => sink.send(Line::Timing(context, values)),
-            Line::Unclear(text) => send_after(&mut self.levels, sink, Line::Unclear(text)),
-            Line::Other(other) => sink.send(Line::Other(other)),
+            Line::Member(context) => sink.send(Line::Member(context), fault),
+            Line::Timing(context, values) => sink.send(Line::Timing(context, values), fault),
+            Line::Unclear(text) => send_after(&mut self.levels, sink, Line::Unclear(text), fault),
+            Line::Other(other) => sink.send(Line::Other(other), fault),
         }
     }
 
@@ -170,38 +196,37 @@ impl Aggregator {
     }
 
     // Sends the contexts that are due, and forgets them.
-    fn send_due<S: LineSink>(&mut self, sink: &mut S) -> Result<(), Fault>
+    fn send_due<S: LineSink>(&mut self, sink: &mut S, fault: &mut SinkError) -> Option<()>
         ensures same { S.sent sink.new ++ held_first self.new
             ≡ S.sent sink.old ++ held_first self.old }
         ensures rest { held_after self.new ≡ held_after self.old }
-        ensures ok { OnOk result (self.new.due ≡ none_due) }
-        ensures refused { S.refusals sink.new ≡ after_reply (S.refusals sink.old) result }
-        ensures leads { S.leads sink.old sink.new }
+        ensures ok { OnOk (ok_or result fault.new) (self.new.due ≡ none_due) }
+        ensures leads { S.leads sink.old (ok_or result fault.new) sink.new }
         ensures limit { self.new.most_bytes ≡ self.old.most_bytes }
     {
-        send_due_sums(&mut self.sums, &mut self.due.sums, sink)?;
-        send_due_levels(&mut self.levels, &mut self.due.levels, sink)?;
-        send_due_members(&mut self.members, &mut self.due.members, sink)?;
-        send_due_timings(&mut self.timings, &mut self.due.timings, sink)
+        send_due_sums(&mut self.sums, &mut self.due.sums, sink, fault)?;
+        send_due_levels(&mut self.levels, &mut self.due.levels, sink, fault)?;
+        send_due_members(&mut self.members, &mut self.due.members, sink, fault)?;
+        send_due_timings(&mut self.timings, &mut self.due.timings, sink, fault)
     }
 
     /// Sends one line for each context, and forgets it. If the last flush failed, as many contexts of each kind as it
     /// left come before all others, the oldest ones first.
     ///
     /// # Errors
-    /// The error of the sink, if it did not take a line. The flush ends there, and what was not sent is still held.
-    pub fn flush<S: LineSink>(&mut self, sink: &mut S) -> Result<(), Fault>
+    /// The error of the sink, if it did not take a line. Then the result is `None` and `fault` has the error. The flush
+    /// ends there, and what was not sent is still held.
+    pub fn flush<S: LineSink>(&mut self, sink: &mut S, fault: &mut SinkError) -> Option<()>
         ensures same { S.sent sink.new ++ held self.new ≡ S.sent sink.old ++ held self.old }
-        ensures ok { OnOk result (held self.new ≡ []) }
-        ensures distinct { OnOk result (HasDistinct self.old) }
-        ensures fewest { OnOk result (AreFewest (held self.old)) }
-        ensures refused { S.refusals sink.new ≡ after_reply (S.refusals sink.old) result }
-        ensures leads { S.leads sink.old sink.new }
+        ensures ok { OnOk (ok_or result fault.new) (held self.new ≡ []) }
+        ensures distinct { OnOk (ok_or result fault.new) (HasDistinct self.old) }
+        ensures fewest { OnOk (ok_or result fault.new) (AreFewest (held self.old)) }
+        ensures leads { S.leads sink.old (ok_or result fault.new) sink.new }
         ensures limit { self.new.most_bytes ≡ self.old.most_bytes }
     {
         self.lengths();
-        self.send_due(sink)?;
+        self.send_due(sink, fault)?;
         self.make_all_due();
-        self.send_due(sink)
+        self.send_due(sink, fault)
     }
 }

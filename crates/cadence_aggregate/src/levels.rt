@@ -1,15 +1,17 @@
 //! The last levels of gauges.
+ghost use Rattle.std.specs.Option.{ok_or};
 ghost use Rattle.std.specs.Prelude.{◌≡◌, ◌++◌, ◌∷◌, ◌+◌, ◌-◌, [], true, OnOk, OnErr, drop, length, take};
 ghost use Rattle.lru.specs.LruCache.{lru_cache};
 ghost use Rattle.cadence_aggregate.specs.Held.{held_levels};
 ghost use Rattle.cadence_aggregate.specs.Lines.{samples_of};
 ghost use Rattle.cadence_aggregate.specs.Quiet.{AreDistinct, HasRoomForContext};
-ghost use Rattle.cadence_aggregate.specs.Refusals.{after_reply};
 ghost use Rattle.cadence_aggregate.specs.Server.{IsSummary, is_plain, level};
 ghost use Rattle.cadence_aggregate.specs.Within.{AreWithin};
 
+use crate::entries::{copy_text, put_entry};
 use crate::line::Line;
-use crate::sink::{Fault, LineSink};
+use crate::sink::LineSink;
+use cadence_errors::SinkError;
 use lru::LruCache;
 use std::alloc::Global;
 
@@ -17,46 +19,46 @@ use std::alloc::Global;
 fn send_oldest<S: LineSink>(
     levels: &mut LruCache<String, String>,
     sink: &mut S,
-) -> Result<(), Fault>
+    fault: &mut SinkError,
+) -> Option<()>
     ensures same { S.sent sink.new ++ held_levels levels.new.entries
         ≡ S.sent sink.old ++ held_levels levels.old.entries }
-    ensures ok { OnOk result (levels.new ≡
+    ensures ok { OnOk (ok_or result fault.new) (levels.new ≡
         lru_cache (take (length levels.old.entries - 1) levels.old.entries) levels.old.cap) }
-    ensures err { OnErr result (levels.new ≡ levels.old) }
-    ensures first { OnOk result (S.sent sink.new
+    ensures err { OnErr (ok_or result fault.new) (levels.new ≡ levels.old) }
+    ensures first { OnOk (ok_or result fault.new) (S.sent sink.new
         ≡ S.sent sink.old ++ take 1 (held_levels levels.old.entries)) }
-    ensures left { OnOk result (held_levels levels.new.entries
+    ensures left { OnOk (ok_or result fault.new) (held_levels levels.new.entries
         ≡ drop 1 (held_levels levels.old.entries)) }
-    ensures kept { OnErr result (S.sent sink.new ≡ S.sent sink.old) }
-    ensures refused { S.refusals sink.new ≡ after_reply (S.refusals sink.old) result }
-    ensures leads { S.leads sink.old sink.new }
+    ensures kept { OnErr (ok_or result fault.new) (S.sent sink.new ≡ S.sent sink.old) }
+    ensures leads { S.leads sink.old (ok_or result fault.new) sink.new }
     ensures within { (most : _) →
         AreWithin most (S.sent sink.old) → AreWithin most (S.sent sink.new) }
 {
     match levels.peek_lru() {
-        Some((context, held)) => sink.send(Line::Level(context.as_str(), held.as_str()))?,
-        None => return Ok(()),
+        Some((context, held)) => sink.send(Line::Level(context.as_str(), held.as_str()), fault)?,
+        None => return Some(()),
     }
     levels.pop_lru();
-    Ok(())
+    Some(())
 }
 
 // Sends the levels, the oldest first, and forgets them. If the sink refuses one, that one and the later ones stay.
 pub(crate) fn flush_levels<S: LineSink>(
     levels: &mut LruCache<String, String>,
     sink: &mut S,
-) -> Result<(), Fault>
+    fault: &mut SinkError,
+) -> Option<()>
     ensures same { S.sent sink.new ++ held_levels levels.new.entries
         ≡ S.sent sink.old ++ held_levels levels.old.entries }
-    ensures ok { OnOk result (levels.new.entries ≡ []) }
+    ensures ok { OnOk (ok_or result fault.new) (levels.new.entries ≡ []) }
     ensures distinct { AreDistinct levels.old.entries }
-    ensures refused { S.refusals sink.new ≡ after_reply (S.refusals sink.old) result }
-    ensures leads { S.leads sink.old sink.new }
+    ensures leads { S.leads sink.old (ok_or result fault.new) sink.new }
 {
     for _ in 0..levels.len() {
-        send_oldest(levels, sink)?;
+        send_oldest(levels, sink, fault)?;
     }
-    Ok(())
+    Some(())
 }
 
 // Sends the values that are due, the oldest first, and forgets them. If the sink refuses one, that one and the later ones
@@ -65,20 +67,20 @@ pub(crate) fn send_due_levels<S: LineSink>(
     levels: &mut LruCache<String, String>,
     due: &mut usize,
     sink: &mut S,
-) -> Result<(), Fault>
+    fault: &mut SinkError,
+) -> Option<()>
     ensures same { S.sent sink.new ++ take due.new (held_levels levels.new.entries)
         ≡ S.sent sink.old ++ take due.old (held_levels levels.old.entries) }
     ensures rest { drop due.new (held_levels levels.new.entries)
         ≡ drop due.old (held_levels levels.old.entries) }
-    ensures ok { OnOk result (due.new ≡ 0) }
-    ensures refused { S.refusals sink.new ≡ after_reply (S.refusals sink.old) result }
-    ensures leads { S.leads sink.old sink.new }
+    ensures ok { OnOk (ok_or result fault.new) (due.new ≡ 0) }
+    ensures leads { S.leads sink.old (ok_or result fault.new) sink.new }
 {
     for _ in 0..*due {
-        send_oldest(levels, sink)?;
+        send_oldest(levels, sink, fault)?;
         *due -= 1;
     }
-    Ok(())
+    Some(())
 }
 
 // Returns whether a value begins with a digit.
@@ -98,31 +100,31 @@ fn hold_level<S: LineSink>(
     sink: &mut S,
     context: &str,
     value: &str,
-) -> Result<(), Fault>
+    fault: &mut SinkError,
+) -> Option<()>
     requires { is_plain value.now ≡ true }
-    ensures ok { OnOk result (IsSummary
+    ensures ok { OnOk (ok_or result fault.new) (IsSummary
         ((S.sent sink.old ++ held_levels levels.old.entries) ++ level context.now value.now ∷ [])
         (S.sent sink.new ++ held_levels levels.new.entries)) }
-    ensures err { OnErr result (IsSummary
+    ensures err { OnErr (ok_or result fault.new) (IsSummary
         (S.sent sink.old ++ held_levels levels.old.entries)
         (S.sent sink.new ++ held_levels levels.new.entries)) }
-    ensures refused { S.refusals sink.new ≡ after_reply (S.refusals sink.old) result }
-    ensures leads { S.leads sink.old sink.new }
+    ensures leads { S.leads sink.old (ok_or result fault.new) sink.new }
     ensures within { (most : _) →
         AreWithin most (S.sent sink.old) → AreWithin most (S.sent sink.new) }
     ensures quiet { HasRoomForContext levels.old → S.sent sink.new ≡ S.sent sink.old }
 {
-    let fresh = String::from_str(alloc, value)?;
+    let fresh = copy_text(alloc, value, fault)?;
     if let Some(held) = levels.get_mut(context) {
         *held = fresh;
-        return Ok(());
+        return Some(());
     }
-    let key = String::from_str(alloc, context)?;
+    let key = copy_text(alloc, context, fault)?;
     if levels.len() == levels.cap().get() {
-        send_oldest(levels, sink)?;
+        send_oldest(levels, sink, fault)?;
     }
-    levels.put(key, fresh)?;
-    Ok(())
+    put_entry(levels, key, fresh, fault)?;
+    Some(())
 }
 
 // Sends the values that are held, and then this line.
@@ -130,20 +132,20 @@ pub(crate) fn send_after<S: LineSink>(
     levels: &mut LruCache<String, String>,
     sink: &mut S,
     line: Line<'_>,
-) -> Result<(), Fault>
-    ensures ok { OnOk result (IsSummary
+    fault: &mut SinkError,
+) -> Option<()>
+    ensures ok { OnOk (ok_or result fault.new) (IsSummary
         ((S.sent sink.old ++ held_levels levels.old.entries) ++ samples_of line.entry)
         (S.sent sink.new ++ held_levels levels.new.entries)) }
-    ensures err { OnErr result (IsSummary
+    ensures err { OnErr (ok_or result fault.new) (IsSummary
         (S.sent sink.old ++ held_levels levels.old.entries)
         (S.sent sink.new ++ held_levels levels.new.entries)) }
-    ensures refused { S.refusals sink.new ≡ after_reply (S.refusals sink.old) result }
-    ensures leads { S.leads sink.old sink.new }
+    ensures leads { S.leads sink.old (ok_or result fault.new) sink.new }
     ensures within { (most : _) → AreWithin most (samples_of line.entry) →
         AreWithin most (S.sent sink.old) → AreWithin most (S.sent sink.new) }
 {
-    flush_levels(levels, sink)?;
-    sink.send(line)
+    flush_levels(levels, sink, fault)?;
+    sink.send(line, fault)
 }
 
 // Sets a gauge. If the value doesn't begin with a digit, the values that are held are sent, and then this one.
@@ -153,22 +155,22 @@ pub(crate) fn set_level<S: LineSink>(
     sink: &mut S,
     context: &str,
     value: &str,
-) -> Result<(), Fault>
-    ensures ok { OnOk result (IsSummary
+    fault: &mut SinkError,
+) -> Option<()>
+    ensures ok { OnOk (ok_or result fault.new) (IsSummary
         ((S.sent sink.old ++ held_levels levels.old.entries) ++ level context.now value.now ∷ [])
         (S.sent sink.new ++ held_levels levels.new.entries)) }
-    ensures err { OnErr result (IsSummary
+    ensures err { OnErr (ok_or result fault.new) (IsSummary
         (S.sent sink.old ++ held_levels levels.old.entries)
         (S.sent sink.new ++ held_levels levels.new.entries)) }
-    ensures refused { S.refusals sink.new ≡ after_reply (S.refusals sink.old) result }
-    ensures leads { S.leads sink.old sink.new }
+    ensures leads { S.leads sink.old (ok_or result fault.new) sink.new }
     ensures within { (most : _) →
         AreWithin most (S.sent sink.old) → AreWithin most (S.sent sink.new) }
     ensures quiet { HasRoomForContext levels.old → is_plain value.now ≡ true →
         S.sent sink.new ≡ S.sent sink.old }
 {
     if begins_with_digit(value) {
-        return hold_level(alloc, levels, sink, context, value);
+        return hold_level(alloc, levels, sink, context, value, fault);
     }
-    send_after(levels, sink, Line::Level(context, value))
+    send_after(levels, sink, Line::Level(context, value), fault)
 }

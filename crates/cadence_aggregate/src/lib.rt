@@ -5,7 +5,9 @@
 //! line. There is no lock and no thread here.
 //!
 //! - `line`: what a line says.
-//! - `sink`: where lines go, and why a line wasn't added.
+//! - `sink`: where lines go.
+//! - `memory`: what a call does when memory runs out.
+//! - `entries`: puts entries into the tables in which contexts are held.
 //! - `sums`: the sums of counters.
 //! - `levels`: the last values of gauges.
 //! - `members`: the members of sets.
@@ -17,9 +19,11 @@
 
 mod aggregator;
 mod due;
+mod entries;
 mod levels;
 mod line;
 mod members;
+mod memory;
 mod runs;
 mod sink;
 mod sums;
@@ -28,5 +32,6 @@ mod timings;
 pub use aggregator::Aggregator;
 pub use due::Due;
 pub use line::Line;
+pub use memory::out_of_memory;
 pub use runs::{Outcome, Step, run};
-pub use sink::{Fault, LineSink};
+pub use sink::LineSink;

@@ -1,13 +1,15 @@
 //! A run of lines and flushes.
-ghost use Rattle.std.specs.Prelude.{◌≡◌, ◌+◌, ◌++◌, ◌<◌, length, IfOk};
+ghost use Rattle.std.specs.Prelude.{◌≡◌, ◌+◌, ◌++◌, ◌<◌, List, Result, length, IfOk};
 ghost use Rattle.cadence_aggregate.specs.Aggregate.{held, accepted_samples, said_by};
-ghost use Rattle.cadence_aggregate.specs.Refusals.{after_replies, after_reply};
+ghost use Rattle.cadence_aggregate.specs.Led.{AllLead};
 ghost use Rattle.cadence_aggregate.specs.Server.{IsSummary};
 ghost use Rattle.cadence_aggregate.specs.Within.{StayWithin};
+ghost use Rattle.cadence_errors.specs.declared.SinkError.{SinkError};
 
 use crate::aggregator::Aggregator;
 use crate::line::Line;
-use crate::sink::{Fault, LineSink};
+use crate::sink::LineSink;
+use cadence_errors::SinkError;
 use std::alloc::{AllocError, Global};
 use std::num::NonZeroUsize;
 
@@ -23,7 +25,7 @@ pub enum Step<'a> {
 /// The reply of each step of a run, and what is still held.
 #[derive(Drop)]
 pub struct Outcome {
-    pub replies: Vec<Result<(), Fault>>,
+    pub replies: Vec<Result<(), SinkError>>,
     pub aggregator: Aggregator,
 }
 
@@ -32,27 +34,27 @@ fn take_step<S: LineSink>(
     aggregator: &mut Aggregator,
     sink: &mut S,
     step: Step<'_>,
-) -> Result<(), Fault>
+) -> Result<(), SinkError>
     ensures said { IsSummary ((S.sent sink.old ++ held aggregator.old) ++ said_by step.entry result)
         (S.sent sink.new ++ held aggregator.new) }
-    ensures refused { S.refusals sink.new ≡ after_reply (S.refusals sink.old) result }
-    ensures leads { S.leads sink.old sink.new }
+    ensures leads { S.leads sink.old result sink.new }
     ensures within { StayWithin aggregator.old.most_bytes
         ((S.sent sink.old ++ held aggregator.old) ++ said_by step.entry result)
         (S.sent sink.new ++ held aggregator.new) }
     ensures limit { aggregator.new.most_bytes ≡ aggregator.old.most_bytes }
 {
+    let mut fault = SinkError::NothingWritten;
     match step {
-        Step::Add(line) => aggregator.add(sink, line),
-        Step::Flush => aggregator.flush(sink),
+        Step::Add(line) => aggregator.add(sink, line, &mut fault).ok_or(fault),
+        Step::Flush => aggregator.flush(sink, &mut fault).ok_or(fault),
     }
 }
 
 /// Runs a list of lines and flushes with any limits, over any sink, which may refuse any line. Each step has a reply.
 ///
 /// A server learns the same from the lines that were sent, and then the lines of what is still held, as from the
-/// accepted lines themselves, and it gets no more lines. As many replies are `Refused` as the sink refused lines,
-/// modulo 2 to the 64. The only error is that memory ran out.
+/// accepted lines themselves, and it gets no more lines. A reply is the error with which the sink refused a line, if it
+/// refused one in this step. The only error of the run is that memory ran out.
 pub fn run<S: LineSink>(
     alloc: Global,
     most: NonZeroUsize,
@@ -64,9 +66,8 @@ pub fn run<S: LineSink>(
     ensures headline { IfOk result (λ o. IsSummary
         (S.sent sink.old ++ accepted_samples steps.now o.replies.items)
         (S.sent sink.new ++ held o.aggregator)) }
-    ensures refused { IfOk result (λ o. S.refusals sink.new
-        ≡ after_replies (S.refusals sink.old) o.replies.items) }
-    ensures leads { S.leads sink.old sink.new }
+    ensures leads { (replies : List (Result (Unit {0}) SinkError)) ×
+        AllLead S.leads sink.old replies sink.new × IfOk result (λ o. o.replies.items ≡ replies) }
     ensures within { IfOk result (λ o. StayWithin most_bytes
         (S.sent sink.old ++ accepted_samples steps.now o.replies.items)
         (S.sent sink.new ++ held o.aggregator)) }

@@ -1,41 +1,46 @@
 //! The sums of counters.
+ghost use Rattle.std.specs.Option.{ok_or};
 ghost use Rattle.std.specs.Prelude.{◌≡◌, ◌++◌, ◌∷◌, ◌+◌, ◌-◌, [], OnOk, OnErr, drop, length, take};
 ghost use Rattle.lru.specs.LruCache.{lru_cache};
 ghost use Rattle.cadence_aggregate.specs.Held.{held_sums};
 ghost use Rattle.cadence_aggregate.specs.Quiet.{HasRoomForContext, CanRaise, is_context};
 ghost use Rattle.std.specs.Map.{lookup};
-ghost use Rattle.cadence_aggregate.specs.Refusals.{after_reply};
 ghost use Rattle.cadence_aggregate.specs.Server.{IsSummary, amount};
 ghost use Rattle.cadence_aggregate.specs.Within.{AreWithin};
 
+use crate::entries::{copy_text, put_entry};
 use crate::line::Line;
-use crate::sink::{Fault, LineSink};
+use crate::sink::LineSink;
+use cadence_errors::SinkError;
 use lru::LruCache;
 use std::alloc::Global;
 
 // Sends the sum whose first call is the least recent, and forgets it. If the sink refuses it, it stays.
-fn send_oldest<S: LineSink>(sums: &mut LruCache<String, i64>, sink: &mut S) -> Result<(), Fault>
+fn send_oldest<S: LineSink>(
+    sums: &mut LruCache<String, i64>,
+    sink: &mut S,
+    fault: &mut SinkError,
+) -> Option<()>
     ensures same { S.sent sink.new ++ held_sums sums.new.entries
         ≡ S.sent sink.old ++ held_sums sums.old.entries }
-    ensures ok { OnOk result (sums.new ≡
+    ensures ok { OnOk (ok_or result fault.new) (sums.new ≡
         lru_cache (take (length sums.old.entries - 1) sums.old.entries) sums.old.cap) }
-    ensures err { OnErr result (sums.new ≡ sums.old) }
-    ensures first { OnOk result (S.sent sink.new
+    ensures err { OnErr (ok_or result fault.new) (sums.new ≡ sums.old) }
+    ensures first { OnOk (ok_or result fault.new) (S.sent sink.new
         ≡ S.sent sink.old ++ take 1 (held_sums sums.old.entries)) }
-    ensures left { OnOk result (held_sums sums.new.entries
+    ensures left { OnOk (ok_or result fault.new) (held_sums sums.new.entries
         ≡ drop 1 (held_sums sums.old.entries)) }
-    ensures kept { OnErr result (S.sent sink.new ≡ S.sent sink.old) }
-    ensures refused { S.refusals sink.new ≡ after_reply (S.refusals sink.old) result }
-    ensures leads { S.leads sink.old sink.new }
+    ensures kept { OnErr (ok_or result fault.new) (S.sent sink.new ≡ S.sent sink.old) }
+    ensures leads { S.leads sink.old (ok_or result fault.new) sink.new }
     ensures within { (most : _) →
         AreWithin most (S.sent sink.old) → AreWithin most (S.sent sink.new) }
 {
     match sums.peek_lru() {
-        Some((context, sum)) => sink.send(Line::Amount(context.as_str(), *sum))?,
-        None => return Ok(()),
+        Some((context, sum)) => sink.send(Line::Amount(context.as_str(), *sum), fault)?,
+        None => return Some(()),
     }
     sums.pop_lru();
-    Ok(())
+    Some(())
 }
 
 // Sends the sums that are due, the oldest first, and forgets them. If the sink refuses one, that one and the later ones
@@ -44,20 +49,20 @@ pub(crate) fn send_due_sums<S: LineSink>(
     sums: &mut LruCache<String, i64>,
     due: &mut usize,
     sink: &mut S,
-) -> Result<(), Fault>
+    fault: &mut SinkError,
+) -> Option<()>
     ensures same { S.sent sink.new ++ take due.new (held_sums sums.new.entries)
         ≡ S.sent sink.old ++ take due.old (held_sums sums.old.entries) }
     ensures rest { drop due.new (held_sums sums.new.entries)
         ≡ drop due.old (held_sums sums.old.entries) }
-    ensures ok { OnOk result (due.new ≡ 0) }
-    ensures refused { S.refusals sink.new ≡ after_reply (S.refusals sink.old) result }
-    ensures leads { S.leads sink.old sink.new }
+    ensures ok { OnOk (ok_or result fault.new) (due.new ≡ 0) }
+    ensures leads { S.leads sink.old (ok_or result fault.new) sink.new }
 {
     for _ in 0..*due {
-        send_oldest(sums, sink)?;
+        send_oldest(sums, sink, fault)?;
         *due -= 1;
     }
-    Ok(())
+    Some(())
 }
 
 // Raises the counter of a context. If the sum would overflow, the old sum is sent first, and the new one begins.
@@ -67,15 +72,15 @@ pub(crate) fn add_amount<S: LineSink>(
     sink: &mut S,
     context: &str,
     by: i64,
-) -> Result<(), Fault>
-    ensures ok { OnOk result (IsSummary
+    fault: &mut SinkError,
+) -> Option<()>
+    ensures ok { OnOk (ok_or result fault.new) (IsSummary
         ((S.sent sink.old ++ held_sums sums.old.entries) ++ amount context.now by ∷ [])
         (S.sent sink.new ++ held_sums sums.new.entries)) }
-    ensures err { OnErr result (IsSummary
+    ensures err { OnErr (ok_or result fault.new) (IsSummary
         (S.sent sink.old ++ held_sums sums.old.entries)
         (S.sent sink.new ++ held_sums sums.new.entries)) }
-    ensures refused { S.refusals sink.new ≡ after_reply (S.refusals sink.old) result }
-    ensures leads { S.leads sink.old sink.new }
+    ensures leads { S.leads sink.old (ok_or result fault.new) sink.new }
     ensures within { (most : _) →
         AreWithin most (S.sent sink.old) → AreWithin most (S.sent sink.new) }
     ensures quiet { HasRoomForContext sums.old →
@@ -86,16 +91,16 @@ pub(crate) fn add_amount<S: LineSink>(
         match sum.checked_add(by) {
             Some(more) => *sum = more,
             None => {
-                sink.send(Line::Amount(context, *sum))?;
+                sink.send(Line::Amount(context, *sum), fault)?;
                 *sum = by;
             }
         }
-        return Ok(());
+        return Some(());
     }
-    let key = String::from_str(alloc, context)?;
+    let key = copy_text(alloc, context, fault)?;
     if sums.len() == sums.cap().get() {
-        send_oldest(sums, sink)?;
+        send_oldest(sums, sink, fault)?;
     }
-    sums.put(key, by)?;
-    Ok(())
+    put_entry(sums, key, by, fault)?;
+    Some(())
 }

@@ -1,15 +1,19 @@
 //! The values of timers, histograms and distributions.
-ghost use Rattle.std.specs.Prelude.{◌≡◌, ◌++◌, ◌∷◌, ◌+◌, ◌-◌, ◌<◌, ◌≤◌, [], OnOk, OnErr, drop, false, length, string_bytes, take, true};
+ghost use Rattle.std.specs.Option.{ok_or};
+ghost use Rattle.std.specs.Prelude.{◌≡◌, ◌++◌, ◌∷◌, ◌+◌, ◌-◌, ◌<◌, ◌≤◌, [], IfNone, OnOk, OnErr, drop, false, length, string_bytes, take, true};
 ghost use Rattle.lru.specs.LruCache.{lru_cache};
 ghost use Rattle.cadence_aggregate.specs.Held.{held_timings};
 ghost use Rattle.cadence_aggregate.specs.Quiet.{HasRoomForContext, CanAppend, is_context};
 ghost use Rattle.std.specs.Map.{lookup};
-ghost use Rattle.cadence_aggregate.specs.Refusals.{after_reply};
 ghost use Rattle.cadence_aggregate.specs.Server.{IsSummary, timing};
 ghost use Rattle.cadence_aggregate.specs.Within.{StayWithin, if_ok};
+ghost use Rattle.cadence_errors.specs.declared.SinkError.TheVariants.{OutOfMemory};
 
+use crate::entries::{copy_text, put_entry};
 use crate::line::Line;
-use crate::sink::{Fault, LineSink};
+use crate::memory::out_of_memory;
+use crate::sink::LineSink;
+use cadence_errors::SinkError;
 use lru::LruCache;
 use std::alloc::{AllocError, Global};
 
@@ -17,26 +21,26 @@ use std::alloc::{AllocError, Global};
 fn send_oldest<S: LineSink>(
     timings: &mut LruCache<String, String>,
     sink: &mut S,
-) -> Result<(), Fault>
+    fault: &mut SinkError,
+) -> Option<()>
     ensures same { S.sent sink.new ++ held_timings timings.new.entries
         ≡ S.sent sink.old ++ held_timings timings.old.entries }
-    ensures ok { OnOk result (timings.new ≡
+    ensures ok { OnOk (ok_or result fault.new) (timings.new ≡
         lru_cache (take (length timings.old.entries - 1) timings.old.entries) timings.old.cap) }
-    ensures err { OnErr result (timings.new ≡ timings.old) }
-    ensures first { OnOk result (S.sent sink.new
+    ensures err { OnErr (ok_or result fault.new) (timings.new ≡ timings.old) }
+    ensures first { OnOk (ok_or result fault.new) (S.sent sink.new
         ≡ S.sent sink.old ++ take 1 (held_timings timings.old.entries)) }
-    ensures left { OnOk result (held_timings timings.new.entries
+    ensures left { OnOk (ok_or result fault.new) (held_timings timings.new.entries
         ≡ drop 1 (held_timings timings.old.entries)) }
-    ensures kept { OnErr result (S.sent sink.new ≡ S.sent sink.old) }
-    ensures refused { S.refusals sink.new ≡ after_reply (S.refusals sink.old) result }
-    ensures leads { S.leads sink.old sink.new }
+    ensures kept { OnErr (ok_or result fault.new) (S.sent sink.new ≡ S.sent sink.old) }
+    ensures leads { S.leads sink.old (ok_or result fault.new) sink.new }
 {
     match timings.peek_lru() {
-        Some((context, text)) => sink.send(Line::Timing(context.as_str(), text.as_str()))?,
-        None => return Ok(()),
+        Some((context, text)) => sink.send(Line::Timing(context.as_str(), text.as_str()), fault)?,
+        None => return Some(()),
     }
     timings.pop_lru();
-    Ok(())
+    Some(())
 }
 
 // Sends the values that are due, the oldest first, and forgets them. If the sink refuses one, that one and the later ones
@@ -45,20 +49,20 @@ pub(crate) fn send_due_timings<S: LineSink>(
     timings: &mut LruCache<String, String>,
     due: &mut usize,
     sink: &mut S,
-) -> Result<(), Fault>
+    fault: &mut SinkError,
+) -> Option<()>
     ensures same { S.sent sink.new ++ take due.new (held_timings timings.new.entries)
         ≡ S.sent sink.old ++ take due.old (held_timings timings.old.entries) }
     ensures rest { drop due.new (held_timings timings.new.entries)
         ≡ drop due.old (held_timings timings.old.entries) }
-    ensures ok { OnOk result (due.new ≡ 0) }
-    ensures refused { S.refusals sink.new ≡ after_reply (S.refusals sink.old) result }
-    ensures leads { S.leads sink.old sink.new }
+    ensures ok { OnOk (ok_or result fault.new) (due.new ≡ 0) }
+    ensures leads { S.leads sink.old (ok_or result fault.new) sink.new }
 {
     for _ in 0..*due {
-        send_oldest(timings, sink)?;
+        send_oldest(timings, sink, fault)?;
         *due -= 1;
     }
-    Ok(())
+    Some(())
 }
 
 // Returns whether the line of a context with both texts of values, and two colons, has at most `most` bytes.
@@ -81,13 +85,26 @@ fn fits(context: &str, text: &str, values: &str, most: usize) -> bool
 }
 
 // Appends a colon and the values. If memory runs out, the text stays as it was.
-fn append_values(text: &mut String, values: &str) -> Result<(), AllocError>
+fn append(text: &mut String, values: &str) -> Result<(), AllocError>
     ensures ok { OnOk result (string_bytes text.new ≡ string_bytes text.old ++ 58 ∷ values.now) }
     ensures err { OnErr result (string_bytes text.new ≡ string_bytes text.old) }
 {
     text.reserve(values.len() + 1)?;
     text.push(':')?;
     text.push_str(values)
+}
+
+// Does what `append` does. Its only error is that memory ran out.
+fn append_values(text: &mut String, values: &str, fault: &mut SinkError) -> Option<()>
+    ensures ok { OnOk (ok_or result fault.new)
+        (string_bytes text.new ≡ string_bytes text.old ++ 58 ∷ values.now) }
+    ensures err { OnErr (ok_or result fault.new) (string_bytes text.new ≡ string_bytes text.old) }
+    ensures memory { IfNone result (fault.new ≡ OutOfMemory) }
+{
+    match append(text, values) {
+        Ok(()) => Some(()),
+        Err(_) => out_of_memory(fault),
+    }
 }
 
 // Adds values to those of a context. If their line would have more bytes than `most`, the line of the earlier ones is
@@ -99,18 +116,18 @@ pub(crate) fn add_timing<S: LineSink>(
     context: &str,
     values: &str,
     most: usize,
-) -> Result<(), Fault>
-    ensures ok { OnOk result (IsSummary
+    fault: &mut SinkError,
+) -> Option<()>
+    ensures ok { OnOk (ok_or result fault.new) (IsSummary
         ((S.sent sink.old ++ held_timings timings.old.entries)
         ++ timing context.now values.now ∷ [])
         (S.sent sink.new ++ held_timings timings.new.entries)) }
-    ensures err { OnErr result (IsSummary
+    ensures err { OnErr (ok_or result fault.new) (IsSummary
         (S.sent sink.old ++ held_timings timings.old.entries)
         (S.sent sink.new ++ held_timings timings.new.entries)) }
-    ensures refused { S.refusals sink.new ≡ after_reply (S.refusals sink.old) result }
-    ensures leads { S.leads sink.old sink.new }
+    ensures leads { S.leads sink.old (ok_or result fault.new) sink.new }
     ensures within { StayWithin most ((S.sent sink.old ++ held_timings timings.old.entries)
-        ++ if_ok result (timing context.now values.now ∷ []))
+        ++ if_ok (ok_or result fault.new) (timing context.now values.now ∷ []))
         (S.sent sink.new ++ held_timings timings.new.entries) }
     ensures quiet { HasRoomForContext timings.old →
         CanAppend (lookup (is_context context.now) timings.old.entries)
@@ -119,19 +136,19 @@ pub(crate) fn add_timing<S: LineSink>(
 {
     if let Some(text) = timings.peek_mut(context) {
         if fits(context, text.as_str(), values, most) {
-            append_values(text, values)?;
+            append_values(text, values, fault)?;
         } else {
-            let fresh = String::from_str(alloc, values)?;
-            sink.send(Line::Timing(context, text.as_str()))?;
+            let fresh = copy_text(alloc, values, fault)?;
+            sink.send(Line::Timing(context, text.as_str()), fault)?;
             *text = fresh;
         }
-        return Ok(());
+        return Some(());
     }
-    let key = String::from_str(alloc, context)?;
-    let text = String::from_str(alloc, values)?;
+    let key = copy_text(alloc, context, fault)?;
+    let text = copy_text(alloc, values, fault)?;
     if timings.len() == timings.cap().get() {
-        send_oldest(timings, sink)?;
+        send_oldest(timings, sink, fault)?;
     }
-    timings.put(key, text)?;
-    Ok(())
+    put_entry(timings, key, text, fault)?;
+    Some(())
 }

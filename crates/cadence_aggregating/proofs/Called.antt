@@ -1,16 +1,14 @@
 -- Calls that make no line, and what their line would say.
-use Rattle.std.proofs.Common.{◌≡◌, ◌≢◌, ◌<◌, ◌≤◌, ◌^◌, ◌+◌, ℕ, ℤ, List, [], ◌∷◌, ◌++◌, length, length-append, arith, refl, sym, ap, subst, ◌∙◌}
-use Rattle.std.specs.Prelude.{All, string_bytes}
+use Rattle.std.proofs.Common.{◌≡◌, ◌<◌, ◌≤◌, ◌^◌, ◌+◌, ℕ, ℤ, List, [], ◌∷◌, ◌++◌, length, length-append, arith, refl, sym, ap, subst, ◌∙◌}
+use Rattle.std.specs.Prelude.{string_bytes}
 use Rattle.std.specs.Int.RustNames.{FitsSigned}
 use Rattle.std.proofs.Math.Logic.{∥∥₁_map}
 use Rattle.std.proofs.lemmas.List.{map-append}
-use Rattle.std.proofs.lemmas.List.Elements.{All-from_recursion}
 use mir.Syntax.{w64}
 use Rattle.cadence_aggregate.specs.Server.{amount, level}
 use Rattle.cadence_aggregate.specs.declared.line.Line.{Line}
 use Rattle.cadence_aggregate.specs.declared.line.Line.TheVariants.{Amount, Level, Member, Timing, Unclear, Other}
 use Rattle.cadence_text.specs.declared.line.MetricType.TheVariants.{Counter, Gauge}
-use Rattle.cadence_text.proofs.grammar.LineText.{number_lacks}
 use Rattle.cadence_value.proofs.spelling.OwnText.{own_text}
 use Rattle.cadence_value.specs.Number.{Number, IsDecimal, natural, number_text, whole}
 use Rattle.cadence_aggregating.specs.Accepted.{line_of_entry, lines_of_entries}
@@ -23,8 +21,7 @@ use Rattle.cadence_aggregating.specs.declared.keys.CounterKey.{CounterKey}
 use Rattle.cadence_aggregating.specs.declared.keys.GaugeKey.{GaugeKey}
 use Rattle.cadence_aggregating.specs.declared.limits.Limits.{Limits}
 use Rattle.cadence_aggregating.proofs.Spliced.{cut_whole}
-use Rattle.cadence_aggregating.proofs.Sayable.{whole_is_decimal}
-use Rattle.cadence_aggregating.proofs.Values.{number_only}
+use Rattle.cadence_read.proofs.ValuesRead.{whole_is_decimal}
 
 -- the line that raises the counter of a context says just this
 counted : (c : List ℕ) (n : ℤ) → FitsSigned w64 n → IsContext Counter c → LineSays (line_saying (amount c n)) (amount c n)
@@ -36,8 +33,7 @@ counted c n fits context =
 leveled : (c : List ℕ) (n : Number) → IsDecimal n → IsContext Gauge c → LineSays (line_saying (level c (number_text n))) (level c (number_text n))
 leveled c n good context =
     let text = number_text n in
-    let plain : All (λ b. b ≢ 58) text = All-from_recursion (λ b. b ≢ 58) text (number_lacks n) in
-    (context, refl, number_only text plain (n, (good, own_text text n good refl)))
+    (context, refl, (n, (good, own_text text n good refl)))
 
 -- a whole number of 64 bits is one that a decimal can have
 natural_is_decimal : (n : ℕ) → n < 2 ^ 64 → IsDecimal (natural n)

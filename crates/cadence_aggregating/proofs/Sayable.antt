@@ -6,10 +6,12 @@ use Rattle.std.proofs.lemmas.List.Elements.{All-from_recursion, recursion_from_A
 use Rattle.std.proofs.lemmas.List.Splits.{length-slice_split}
 use mir.Syntax.{w64}
 use Rattle.cadence_aggregate.specs.Server.{Sample, amount, level, member, timing, unclear, other, values_in, IsSummary}
-use Rattle.cadence_value.specs.Number.{IsDecimal, number_text, whole}
+use Rattle.cadence_read.proofs.ValuesRead.{whole_is_decimal}
+use Rattle.cadence_read.specs.Values.{IsNumberText}
+use Rattle.cadence_value.specs.Number.{number_text, whole}
 use Rattle.cadence_value.proofs.spelling.OwnText.{own_text}
 use Rattle.cadence_aggregating.specs.Printed.{line_saying}
-use Rattle.cadence_aggregating.specs.Says.{IsNumberText, LineSays, MaySetGauge, MetricSays}
+use Rattle.cadence_aggregating.specs.Says.{LineSays, MaySetGauge, MetricSays}
 use Rattle.cadence_aggregating.proofs.Among.{Among, HasValue, amount_shown, amount_found, level_shown, level_found, member_shown, member_found, other_shown, unclear_shown, rest_found, timing_shown, timing_found, is, is_level}
 
 -- The line that says this says just this.
@@ -24,9 +26,6 @@ IsSized (member l) = Unit {0}
 IsSized (timing c t) = Unit {0}
 IsSized (unclear l) = Unit {0}
 IsSized (other l) = Unit {0}
-
-pub whole_is_decimal : (n : ℤ) → FitsSigned w64 n → IsDecimal (whole n)
-whole_is_decimal n fits = record { mantissa = grind (arith, fits); places = omega arith; lowest = refl }
 
 -- another sum of the same context
 another_sum : (line c : List ℕ) (k n : ℤ) → MetricSays line (amount c k) → FitsSigned w64 n → IsSayable (amount c n)

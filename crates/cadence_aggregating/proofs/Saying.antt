@@ -10,6 +10,7 @@ use mir.Syntax.{w64}
 use Rattle.cadence_aggregate.specs.Server.{Sample, amount, level, member, timing, unclear, other, values_in}
 use Rattle.cadence_read.proofs.Cuts.{lacks_both}
 use Rattle.cadence_read.specs.Cuts.{IsCut, Parts, line_of_parts}
+use Rattle.cadence_read.specs.Values.{AreNumbers, IsNumberText}
 use Rattle.cadence_text.proofs.grammar.LineText.{kind_once}
 use Rattle.cadence_text.specs.declared.line.MetricType.{MetricType}
 use Rattle.cadence_text.specs.declared.line.MetricType.TheVariants.{Counter, Timer, Gauge, Meter, Histogram, Set, Distribution}
@@ -19,10 +20,9 @@ use Rattle.cadence_value.specs.Number.{Number, whole}
 use Rattle.cadence_value.specs.SpelledNumber.{SaysNumber}
 use Rattle.cadence_value.proofs.lists.SplitTexts.{Lacks, each_append, lacks_no}
 use Rattle.cadence_value.proofs.spelling.NumberBytes as bytes
-use Rattle.cadence_value.proofs.spelling.OneReading.{number_once}
 use Rattle.cadence_aggregating.specs.Additions.{IsAddable, IsAddedAs, IsAddition, IsAdditionBy, context_of}
 use Rattle.cadence_aggregating.specs.Printed.{before_bar, from_bar, spliced}
-use Rattle.cadence_aggregating.specs.Says.{AreNumbers, HasTime, IsContext, IsNumberText, LineSays, MetricSays, is_timed}
+use Rattle.cadence_aggregating.specs.Says.{HasTime, IsContext, LineSays, MetricSays, is_timed}
 use Rattle.cadence_aggregating.specs.declared.said.Addition.{Addition}
 use Rattle.cadence_aggregating.specs.declared.said.Addition.TheVariants.{Amount, Level, Member, Timing}
 use Rattle.cadence_aggregating.proofs.Spliced.{before_found, from_found}
@@ -150,8 +150,8 @@ of_parts kind c values line h its bar newline a added =
 pub said_added : (line : List ℕ) (said : Sample) → MetricSays line said → (b : Parts × Addition) × IsAddedAs line b
 said_added line (amount c n) (h, fits, (number, its, says)) =
     of_parts Counter c number line h its (number_bar number (whole n) says) (number_newline number (whole n) says) (Amount n) (refl, says, fits)
-said_added line (level c v) (h, its, numbers) =
-    of_parts Gauge c v line h its (values_bar v numbers) (values_newline v numbers) Level (refl, numbers)
+said_added line (level c v) (h, its, (n, (decimal, says))) =
+    of_parts Gauge c v line h its (number_bar v n says) (number_newline v n says) Level (refl, (n, (decimal, says)))
 said_added line (member l) (same, (c, text, h, its, is)) =
     of_parts Set c text line h its (recursion_from_All (λ b. b ≢ 124) text is.bar) (recursion_from_All (λ b. b ≢ 10) text is.newline) Member refl
 said_added line (timing c t) ((kind, timed, h), its, numbers) =
@@ -223,7 +223,7 @@ none_counted values none Level (is, numbers) = cc is
 none_counted values none Member is = cc is
 none_counted values none Timing (timed, numbers) = cc timed
 
-pub none_set : (values : List ℕ) → (AreNumbers values → ⊥) → (a : Addition) → IsAdditionBy Gauge values a → ⊥
+pub none_set : (values : List ℕ) → (IsNumberText values → ⊥) → (a : Addition) → IsAdditionBy Gauge values a → ⊥
 none_set values none (Amount n) (is, says, fits) = cc is
 none_set values none Level (is, numbers) = none numbers
 none_set values none Member is = cc is
@@ -237,12 +237,12 @@ none_metered values Timing (timed, numbers) = cc timed
 
 pub none_timed : (kind : MetricType) (values : List ℕ) → is_timed kind ≡ true → (AreNumbers values → ⊥) → (a : Addition) → IsAdditionBy kind values a → ⊥
 none_timed kind values timed none (Amount n) (is, says, fits) = cc (sym timed ∙ ap is_timed is)
-none_timed kind values timed none Level (is, numbers) = none numbers
+none_timed kind values timed none Level (is, numbers) = cc (sym timed ∙ ap is_timed is)
 none_timed kind values timed none Member is = cc (sym timed ∙ ap is_timed is)
 none_timed kind values timed none Timing (also, numbers) = none numbers
 
-pub addition_found : (values : List ℕ) (r : Option Addition) (kind : MetricType) (a : Addition) → (AreNumbers values → IsAdditionBy kind values a)
-    → ((AreNumbers values → ⊥) → (b : Addition) → IsAdditionBy kind values b → ⊥) → IfSome r (λ b. (b ≡ a) × AreNumbers values) → IfNone r (AreNumbers values → ⊥)
+pub addition_found : {Are : Type 0} (values : List ℕ) (r : Option Addition) (kind : MetricType) (a : Addition) → (Are → IsAdditionBy kind values a)
+    → ((Are → ⊥) → (b : Addition) → IsAdditionBy kind values b → ⊥) → IfSome r (λ b. (b ≡ a) × Are) → IfNone r (Are → ⊥)
     → Finds (IsAdditionBy kind values) r
 addition_found values (Some b) kind a added none (is, numbers) h = subst (IsAdditionBy kind values) (sym is) (added numbers)
 addition_found values None kind a added none h nothing = none nothing
@@ -255,9 +255,3 @@ other_kind p kind is None none =
 
 pub no_kind : (p : Parts) → ((kind : MetricType) → kind_text kind ≡ p.kind → ⊥) → (a : Addition) → IsAddition p a → ⊥
 no_kind p none a (kind, is, h) = none kind (sym is)
-
--- Two whole numbers that a text says are one.
-pub whole_none : (text : List ℕ) (number : Number) (r : Option ℤ) → SaysNumber text number → IfNone r ((n : ℤ) → FitsSigned w64 n → number ≡ whole n → ⊥)
-    → IfNone r ((n : ℤ) → FitsSigned w64 n → SaysNumber text (whole n) → ⊥)
-whole_none text number (Some k) says h = tt
-whole_none text number None says h = λ n fits also. h n fits (number_once text number (whole n) says also)

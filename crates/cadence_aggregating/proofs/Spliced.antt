@@ -1,9 +1,10 @@
 -- A context cut at its first bar, and the line in which values are put there.
 use Rattle.std.proofs.Common.{◌≡◌, ℕ, ℤ, ◌+◌, List, [], ◌∷◌, ◌++◌, length, take, drop, true, false, cond, eqb, refl, sym, ap, ap₂, ◌∙◌, arith}
 use Rattle.std.proofs.lemmas.Bool.{ne_eqb}
-use Rattle.std.proofs.lemmas.List.{take_at, drop_at, drop-drop}
+use Rattle.std.proofs.lemmas.List.{append-nil, take_at, drop_at, drop-drop}
 use Rattle.cadence_value.proofs.lists.SplitTexts.{Lacks}
 use Rattle.cadence_aggregate.specs.Server.{amount, level, timing}
+use Rattle.cadence_read.specs.Cuts.{AreFields}
 use Rattle.cadence_value.specs.Number.{number_text, whole}
 use Rattle.cadence_aggregating.specs.Noted.{around, within, noted}
 use Rattle.cadence_aggregating.specs.declared.note.Kind.TheVariants.{Amount, Level, Timing}
@@ -17,13 +18,20 @@ pub from_found : (front rest : List ℕ) → Lacks 124 front → from_bar (front
 from_found [] rest h = refl
 from_found (byte ∷ front) rest h = rw (ne_eqb byte 124 h.0) (from_found front rest h.1)
 
-pub before_none : (text : List ℕ) → Lacks 124 text → before_bar text ≡ text
+before_none : (text : List ℕ) → Lacks 124 text → before_bar text ≡ text
 before_none [] h = refl
 before_none (byte ∷ text) h = rw (ne_eqb byte 124 h.0) (ap (λ t. byte ∷ t) (before_none text h.1))
 
-pub from_none : (text : List ℕ) → Lacks 124 text → from_bar text ≡ []
+from_none : (text : List ℕ) → Lacks 124 text → from_bar text ≡ []
 from_none [] h = refl
 from_none (byte ∷ text) h = rw (ne_eqb byte 124 h.0) (from_none text h.1)
+
+-- a text that is cut before its first bar
+pub field_cut : (text front fields : List ℕ) → text ≡ front ++ fields → Lacks 124 front → AreFields fields → (before_bar text ≡ front) × (from_bar text ≡ fields)
+field_cut text front [] whole h are = let same : text ≡ front = whole ∙ append-nil front in rw same (before_none front h, from_none front h)
+field_cut text front (byte ∷ bytes) whole h are =
+    let same : text ≡ front ++ 124 ∷ bytes = whole ∙ ap (λ b. front ++ b ∷ bytes) are in
+    rw same (rw are (before_found front bytes h, from_found front bytes h))
 
 -- both parts make the whole
 pub cut_whole : (context : List ℕ) → before_bar context ++ from_bar context ≡ context

@@ -1,23 +1,17 @@
 -- For proofs: the parts into which a line is cut, and how its metric is added to others of its context.
 use Rattle.std.specs.Prelude.{◌≡◌, ◌≢◌, true, ℕ, List, ◌∷◌, ◌++◌, All}
 use Rattle.std.specs.Int.RustNames.{FitsSigned}
-use Rattle.std.specs.Option.{option_copied}
 use mir.Syntax.{w64}
 use Rattle.cadence_read.specs.Cuts.{IsCut, Parts}
+use Rattle.cadence_read.specs.Values.{AreNumbers, IsNumberText}
 use Rattle.cadence_text.specs.declared.line.MetricType.{MetricType}
 use Rattle.cadence_text.specs.declared.line.MetricType.TheVariants.{Counter, Gauge, Set}
 use Rattle.cadence_text.specs.Line.{kind_text}
 use Rattle.cadence_value.specs.Number.{whole}
 use Rattle.cadence_value.specs.SpelledNumber.{SaysNumber}
-use Rattle.cadence_aggregating.specs.Printed.{barred}
-use Rattle.cadence_aggregating.specs.Says.{AreNumbers, HasTime, IsEventName, is_timed}
+use Rattle.cadence_aggregating.specs.Says.{HasTime, IsEventName, is_timed}
 use Rattle.cadence_aggregating.specs.declared.said.Addition.{Addition}
 use Rattle.cadence_aggregating.specs.declared.said.Addition.TheVariants.{Amount, Level, Member, Timing}
-use Rattle.cadence_aggregating.specs.declared.said.TextParts.{TextParts}
-
--- the parts that a function cut
-abbrev pub parts_of_text : TextParts → Parts
-parts_of_text t = record { name = t.name.now; values = t.values.now; kind = t.kind.now; fields = barred (option_copied t.fields) }
 
 -- the context of a line of these parts
 abbrev pub context_of : Parts → List ℕ
@@ -32,7 +26,7 @@ pub record IsAddable (line name : List ℕ) : Type 0 where
 -- Values of this kind are added in this way.
 abbrev pub IsAdditionBy : MetricType → List ℕ → Addition → Type 0
 IsAdditionBy kind values (Amount n) = (kind ≡ Counter) × SaysNumber values (whole n) × FitsSigned w64 n
-IsAdditionBy kind values Level = (kind ≡ Gauge) × AreNumbers values
+IsAdditionBy kind values Level = (kind ≡ Gauge) × IsNumberText values
 IsAdditionBy kind values Member = kind ≡ Set
 IsAdditionBy kind values Timing = (is_timed kind ≡ true) × AreNumbers values
 

@@ -1,7 +1,7 @@
 -- What contracts see of the keys of calls that make no line.
 use Rattle.std.specs.Prelude.{◌≡◌, ℕ, ℤ, List, [], ◌∷◌, string_bytes}
 use Rattle.cadence_aggregate.specs.Server.{Sample, amount, level, member, timing, unclear, other}
-use Rattle.cadence_settings.specs.Call.{MetricCall, metric_of_call}
+use Rattle.cadence_settings.specs.Call.{MetricCall, metric_for}
 use Rattle.cadence_settings.specs.Settings.{Settings}
 use Rattle.cadence_text.specs.declared.line.MetricType.TheVariants.{Counter, Gauge}
 use Rattle.cadence_text.specs.Line.{line_of}
@@ -31,11 +31,11 @@ line_of_gauge key value = line_saying (level (context_of_gauge key) (number_text
 
 -- Each line of the counter is the line that these settings make of this call with the number.
 abbrev pub CountsFor : Settings → MetricCall → CounterKey → Type 0
-CountsFor settings call key = (n : ℤ) → line_of_counter key n ≡ line_of (metric_of_call settings (record call { numbers = whole n ∷ [] }))
+CountsFor settings call key = (n : ℤ) → line_of_counter key n ≡ line_of (metric_for settings (record call { numbers = whole n ∷ [] }))
 
 -- Each line of the gauge is the line that these settings make of this call with the value.
 abbrev pub SetsFor : Settings → MetricCall → GaugeKey → Type 0
-SetsFor settings call key = (n : ℕ) → line_of_gauge key n ≡ line_of (metric_of_call settings (record call { numbers = natural n ∷ [] }))
+SetsFor settings call key = (n : ℕ) → line_of_gauge key n ≡ line_of (metric_for settings (record call { numbers = natural n ∷ [] }))
 
 -- Each line of the key is the line that these settings make of this call with one other number.
 abbrev pub IsKeyFor : Settings → MetricCall → LineKey → Type 0

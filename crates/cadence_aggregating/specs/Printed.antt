@@ -1,5 +1,5 @@
 -- The line that says something.
-use Rattle.std.specs.Prelude.{ℕ, ◌==◌, if◌then◌else◌, Option, Some, None, List, [], ◌∷◌, ◌++◌, codes}
+use Rattle.std.specs.Prelude.{ℕ, ◌==◌, if◌then◌else◌, List, [], ◌∷◌, ◌++◌, codes}
 use Rattle.cadence_aggregate.specs.Server.{Sample, amount, level, member, timing, unclear, other}
 use Rattle.cadence_value.specs.Number.{number_text, whole}
 
@@ -12,11 +12,6 @@ before_bar (byte ∷ text) = if byte == 124 then [] else byte ∷ before_bar tex
 abbrev pub from_bar : List ℕ → List ℕ
 from_bar [] = []
 from_bar (byte ∷ text) = if byte == 124 then byte ∷ text else from_bar text
-
--- a bar and the text after it, or nothing if there is no text
-abbrev pub barred : Option (List ℕ) → List ℕ
-barred None = []
-barred (Some text) = codes "|" ++ text
 
 -- the line of a context with these values
 abbrev pub spliced : List ℕ → List ℕ → List ℕ

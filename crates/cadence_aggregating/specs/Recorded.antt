@@ -1,5 +1,6 @@
 -- What contracts see of an aggregator of lines.
 use Rattle.std.specs.Prelude.{ℕ, List, length, map}
+use Rattle.cadence_errors.specs.declared.SinkError.{SinkError}
 use Rattle.cadence_stage.specs.Call.{Call}
 use Rattle.cadence_stage.specs.Past.{taken_in}
 use Rattle.cadence_aggregate.specs.Server.{Sample}
@@ -26,9 +27,9 @@ module _ {S : Type 0} where
   abbrev pub lines_taken : RecordedAggregator S → List (List ℕ)
   lines_taken a = map line_of_note a.printer.notes.items
 
-  -- how many lines the sink refused, modulo 2 to the 64
-  abbrev pub refusals_by : RecordedAggregator S → ℕ
-  refusals_by a = a.printer.refusals
+  -- the errors with which the sink refused lines, in order
+  abbrev pub refusals_by : RecordedAggregator S → List SinkError
+  refusals_by a = a.printer.refusals.items
 
   -- what the lines of the next flush say
   abbrev pub samples_held : RecordedAggregator S → List Sample

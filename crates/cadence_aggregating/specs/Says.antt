@@ -2,13 +2,14 @@
 use Rattle.std.specs.Prelude.{◌≡◌, ◌≢◌, ℕ, Bool, true, false, List, ◌∷◌, ◌++◌, All, codes}
 use Rattle.std.specs.Int.RustNames.{FitsSigned}
 use mir.Syntax.{w64}
-use Rattle.cadence_aggregate.specs.Server.{Sample, amount, level, member, timing, unclear, other, values_in}
+use Rattle.cadence_aggregate.specs.Server.{Sample, amount, level, member, timing, unclear, other}
 use Rattle.cadence_read.specs.Cuts.{AreFields}
+use Rattle.cadence_read.specs.Values.{AreNumbers, IsNumberText}
 use Rattle.cadence_text.specs.declared.line.MetricType.{MetricType}
 use Rattle.cadence_text.specs.declared.line.MetricType.TheVariants.{Counter, Timer, Gauge, Meter, Histogram, Set, Distribution}
 use Rattle.cadence_text.specs.Line.{kind_text}
-use Rattle.cadence_value.specs.Number.{Number, whole}
-use Rattle.cadence_value.specs.SpelledNumber.{SaysDecimal, SaysNumber}
+use Rattle.cadence_value.specs.Number.{whole}
+use Rattle.cadence_value.specs.SpelledNumber.{SaysNumber}
 use Rattle.cadence_aggregating.specs.Printed.{spliced}
 
 -- whether the numbers of this kind are values whose distribution a server computes
@@ -48,26 +49,18 @@ pub record IsContext (kind : MetricType) (context : List ℕ) : Type 0 where
   pub marked : AreFields fields
   pub time : HasTime context → ⊥
 
--- The text is a number, in any spelling.
-abbrev pub IsNumberText : List ℕ → Type 0
-IsNumberText text = (n : Number) × SaysDecimal text n
-
--- The text is numbers, with a colon between each two.
-abbrev pub AreNumbers : List ℕ → Type 0
-AreNumbers values = All IsNumberText (values_in values)
-
 -- The text can be a member of a set: it ends neither its field nor its line.
 pub record IsMember (text : List ℕ) : Type 0 where
   pub bar : All (λ byte. byte ≢ 124) text
   pub newline : All (λ byte. byte ≢ 10) text
 
 -- The line is that of a metric which can be added to others of its context, and says this. A counter has to have one whole
--- number, in any spelling, that fits 64 bits. The values of a gauge, a timer, a histogram and a distribution are numbers,
--- and a member of a set is any text.
+-- number, in any spelling, that fits 64 bits. The value of a gauge is one number, those of a timer, a histogram and a
+-- distribution are numbers, and a member of a set is any text.
 abbrev pub MetricSays : List ℕ → Sample → Type 0
 MetricSays line (amount c n) =
     IsContext Counter c × FitsSigned w64 n × ((number : List ℕ) × (line ≡ spliced c number) × SaysNumber number (whole n))
-MetricSays line (level c v) = IsContext Gauge c × (line ≡ spliced c v) × AreNumbers v
+MetricSays line (level c v) = IsContext Gauge c × (line ≡ spliced c v) × IsNumberText v
 MetricSays line (member l) = (l ≡ line) × ((c : List ℕ) × (text : List ℕ) × IsContext Set c × (line ≡ spliced c text) × IsMember text)
 MetricSays line (timing c t) =
     ((kind : MetricType) × (is_timed kind ≡ true) × IsContext kind c) × (line ≡ spliced c t) × AreNumbers t

@@ -4,7 +4,7 @@ use Rattle.cadence_errors.specs.declared.SinkError.{SinkError}
 use Rattle.cadence_stage.specs.Call.{Call, Flush, Line}
 use Rattle.cadence_stage.specs.Kept.{after_of, before_of}
 use Rattle.cadence_stage.specs.declared.kept.Receipt.{Receipt}
-use Rattle.cadence_aggregating.specs.Causes.{HasCountedCause}
+use Rattle.cadence_aggregating.specs.Causes.{HasCause}
 use Rattle.cadence_aggregating.specs.Printed.{line_saying}
 use Rattle.cadence_aggregating.specs.Quiet.{IsQuiet}
 use Rattle.cadence_aggregating.specs.Recorded.{lines_accepted, aggregator_of, samples_held, limits_of, refusals_by, sink_of, lines_taken}
@@ -19,10 +19,10 @@ module _ {S : Type 0} where
       pub quiet : ∥ IsQuiet (limits_of old) (aggregator_of old) line (lines_taken old) (lines_taken new) ∥₁
       pub refused : refusals_by new ≡ refusals_by old
 
-    -- The aggregator accepted no line. The sink refused one, or it refused none and memory ran out.
+    -- The aggregator accepted no line. The sink refused one, with this error, or it refused none and memory ran out.
     pub record AcceptsNone (e : SinkError) : Type 0 where
       pub accepted : lines_accepted new ≡ lines_accepted old
-      pub cause : HasCountedCause (refusals_by old) (refusals_by new) (Err e)
+      pub cause : HasCause (refusals_by old) (Err e) (refusals_by new)
 
     -- The sink took the lines of what was held, in order, and nothing is held any more.
     pub record SendsAll : Type 0 where

@@ -1,18 +1,24 @@
 //! The keys of calls that make no line.
-ghost use Rattle.std.specs.Prelude.{◌≡◌, [], Some, IfErr, IfNone, IfOk, IfSome, IsFalse, IsTrue, OnErr, OnOk, map, string_bytes};
+ghost use Rattle.std.specs.Prelude.{◌≡◌, IfErr, IfNone, IfOk, IfSome, IsFalse, IsTrue, OnErr, OnOk, map, string_bytes};
+ghost use Rattle.std.specs.List.{fold};
 ghost use Rattle.cadence_errors.specs.Errors.{IsInvalid};
-ghost use Rattle.cadence_settings.specs.Call.{is_clear_call, tagged};
-ghost use Rattle.cadence_settings.specs.CallData.{call_of, choice_of, kind_of_value, numbers_of_value};
+ghost use Rattle.cadence_settings.specs.Call.{chosen, is_clear_call};
+ghost use Rattle.cadence_text.specs.Draft.{draft_of};
+ghost use Rattle.cadence_text.specs.Metric.{Metric};
 ghost use Rattle.cadence_text.specs.Record.{tag_of};
 ghost use Rattle.cadence_text.specs.declared.line.MetricType.TheVariants.{Counter, Gauge};
-ghost use Rattle.cadence_aggregating.specs.Contexts.{IsLineOfZero, MayFailFor, tagged_call, zeros};
+ghost use Rattle.cadence_value.specs.Values.{numbers_of};
+ghost use Rattle.cadence_aggregating.specs.Contexts.{IsLineOfZero, MayFailFor, sent_tag, tagged_call, zeros};
 ghost use Rattle.cadence_aggregating.specs.Says.{IsContext};
 
 use crate::said::read_said;
 use cadence_aggregate::Line;
 use cadence_errors::{ErrorKind, MetricError, MetricResult};
-use cadence_settings::{Call, CallOption, CallValue, ClientSettings, strict_calls_are_clear};
-use cadence_text::line::Tag;
+use cadence_settings::{
+    ClientSettings, DraftError, Separator, strict_calls_are_clear, tags_are_clear,
+};
+use cadence_text::line::{DraftLine, MetricType, Tag};
+use cadence_value::value::MetricValue;
 use std::alloc::{AllocError, Global};
 
 /// Settings that are strict.
@@ -38,19 +44,32 @@ impl StrictSettings {
         Ok(StrictSettings { settings })
     }
 
-    // Returns the line of a call with the number 0.
-    fn line_of_zero(&self, call: &Call) -> MetricResult<String>
-        requires { numbers_of_value (call.now).value ≡ Some zeros }
-        ensures line { IfOk result (λ line.
-            IsLineOfZero self.now.settings (call_of call.now []) (string_bytes line)) }
-        ensures refused { IfErr result (MayFailFor (is_clear_call (call_of call.now []))) }
+    // Returns the line of a call with these tags and the number 0.
+    fn line_of_zero(
+        &self,
+        key: &str,
+        kind: MetricType,
+        zero: MetricValue,
+        tags: &[Tag<'_>],
+    ) -> MetricResult<String>
+        requires { numbers_of zero ≡ zeros }
+        ensures line { IfOk result (λ line. IsLineOfZero self.now.settings
+            (tagged_call kind key.now (map tag_of tags.now)) (string_bytes line)) }
+        ensures refused { IfErr result (MayFailFor
+            (is_clear_call (tagged_call kind key.now (map tag_of tags.now)))) }
     {
         self.settings.is_strict();
         strict_calls_are_clear();
-        match self.settings.line_of(call) {
-            Ok(line) => Ok(line),
-            Err(error) => Err(error),
+        if !tags_are_clear(tags) {
+            return Err(MetricError::from(DraftError::Unusable(Separator)));
         }
+        let mut draft = match self.settings.draft(key, kind, zero) {
+            Ok(draft) => draft,
+            Err(error) => return Err(MetricError::from(error)),
+        };
+        add_tags(&mut draft, tags, self.settings.is_cleaned())?;
+        let line = draft.into_text()?;
+        Ok(line)
     }
 }
 
@@ -93,7 +112,7 @@ impl LineKey {
         ensures key { IfOk result (λ made. IfSome made (IsKeyOfLine line.now)) }
         ensures none { IfOk result (λ made. IfNone made (SaysNeither line.now)) }
     {
-        let mut text = String::new(alloc);
+        let mut text = String::with_capacity(alloc, line.len())?;
         match read_said(line, &mut text)? {
             Line::Amount(context, _) => Ok(Some(LineKey::Raises(CounterKey {
                 context: String::from_str(alloc, context)?,
@@ -115,22 +134,18 @@ impl StrictSettings {
         &self,
         alloc: Global,
         key: &str,
-        value: CallValue,
+        kind: MetricType,
+        zero: MetricValue,
         tags: &[Tag<'_>],
     ) -> MetricResult<LineKey>
-        requires kind { (kind_of_value value ≡ Counter) ⊎ (kind_of_value value ≡ Gauge) }
-        requires zero { numbers_of_value value ≡ Some zeros }
+        requires kind { (kind ≡ Counter) ⊎ (kind ≡ Gauge) }
+        requires zero { numbers_of zero ≡ zeros }
         ensures key { IfOk result (IsKeyFor self.now.settings
-            (tagged_call (kind_of_value value) key.now (map tag_of tags.now))) }
-        ensures refused { IfErr result (MayFailFor (is_clear_call
-            (tagged_call (kind_of_value value) key.now (map tag_of tags.now)))) }
+            (tagged_call kind key.now (map tag_of tags.now))) }
+        ensures refused { IfErr result (MayFailFor
+            (is_clear_call (tagged_call kind key.now (map tag_of tags.now)))) }
     {
-        let call = Call {
-            key: String::from_str(alloc, key)?,
-            value,
-            options: options_of(alloc, tags)?,
-        };
-        let line = self.line_of_zero(&call)?;
+        let line = self.line_of_zero(key, kind, zero, tags)?;
         match LineKey::of_line(alloc, &line)? {
             Some(key) => Ok(key),
             None => Err(not_added()),
@@ -156,7 +171,13 @@ impl CounterKey {
         ensures refused { IfErr result (MayFailFor
             (is_clear_call (tagged_call Counter key.now (map tag_of tags.now)))) }
     {
-        match settings.key_of(alloc, key, CallValue::CountI64(0), tags)? {
+        match settings.key_of(
+            alloc,
+            key,
+            MetricType::Counter,
+            MetricValue::Signed(0),
+            tags,
+        )? {
             LineKey::Raises(key) => Ok(key),
             LineKey::Sets(_) => Err(not_added()),
         }
@@ -181,32 +202,26 @@ impl GaugeKey {
         ensures refused { IfErr result (MayFailFor
             (is_clear_call (tagged_call Gauge key.now (map tag_of tags.now)))) }
     {
-        match settings.key_of(alloc, key, CallValue::GaugeU64(0), tags)? {
+        match settings.key_of(
+            alloc,
+            key,
+            MetricType::Gauge,
+            MetricValue::Unsigned(0),
+            tags,
+        )? {
             LineKey::Sets(key) => Ok(key),
             LineKey::Raises(_) => Err(not_added()),
         }
     }
 }
 
-// Returns a tag as the option of a call. The only error is that memory ran out.
-fn option_of(alloc: Global, tag: &Tag<'_>) -> Result<CallOption, AllocError>
-    ensures { IfOk result (λ option. choice_of option ≡ tagged (tag_of tag.now)) }
+// Adds tags to the draft of a line, with cleaned texts if `is_cleaned` is set. The only error is that memory ran out.
+fn add_tags(draft: &mut DraftLine<'_>, tags: &[Tag<'_>], is_cleaned: bool) -> Result<(), AllocError>
+    ensures { OnOk result ((m : Metric) → draft.old ≡ draft_of m →
+        draft.new ≡ draft_of (fold chosen m (map (sent_tag is_cleaned) (map tag_of tags.now)))) }
 {
-    let text = String::from_str(alloc, tag.text)?;
-    match tag.key {
-        Some(key) => Ok(CallOption::Tag(String::from_str(alloc, key)?, text)),
-        None => Ok(CallOption::TagValue(text)),
-    }
-}
-
-// Returns tags as the options of a call. The only error is that memory ran out.
-fn options_of(alloc: Global, tags: &[Tag<'_>]) -> Result<Vec<CallOption>, AllocError>
-    ensures { IfOk result (λ options.
-        map choice_of options.items ≡ map tagged (map tag_of tags.now)) }
-{
-    let mut options = Vec::with_capacity(alloc, tags.len())?;
     for tag in tags {
-        options.push(option_of(alloc, tag)?)?;
+        draft.add_tag_as(*tag, is_cleaned)?;
     }
-    Ok(options)
+    Ok(())
 }

@@ -56,3 +56,4 @@ pub use runs::{Outcome, Step, run};
 pub use sink::AggregatingMetricSink;
 pub use summed::SummedLines;
 pub use sums::Sums;
+pub use waiting::WaitingLines;

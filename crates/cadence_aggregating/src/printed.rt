@@ -1,41 +1,25 @@
 //! Writes the line that says something, and notes what it says.
 ghost use Rattle.std.specs.Prelude.{◌≡◌, ◌++◌, [], IfOk, OnOk, length, string_bytes};
-ghost use Rattle.std.specs.Option.{option_copied};
 ghost use Rattle.cadence_aggregate.specs.Lines.{sample_of};
 ghost use Rattle.cadence_value.specs.Number.{natural, number_text, whole};
 ghost use Rattle.cadence_aggregating.specs.Noted.{noted};
 ghost use Rattle.cadence_aggregating.specs.Notes.{line_of_note, sample_of_note};
-ghost use Rattle.cadence_aggregating.specs.Printed.{barred, before_bar, from_bar, spliced, line_saying};
+ghost use Rattle.cadence_aggregating.specs.Printed.{before_bar, from_bar, spliced, line_saying};
 
 use crate::note::{Kind, Note};
 use cadence_aggregate::Line;
+use cadence_read::cut_text_field;
 use cadence_stage::GhostTexts;
-use cadence_value::bytes::split_text_once;
 use cadence_value::decimal::Decimal;
 use std::alloc::AllocError;
 use std::fmt::Write;
 
-// Cuts a context into the text before its first bar, and the text after that bar, if it has one.
-fn cut_context(context: &str) -> (&str, Option<&str>)
+// Cuts a context before its first bar.
+fn cut_context(context: &str) -> (&str, &str)
     ensures name { result.0.now ≡ before_bar context.now }
-    ensures fields { barred (option_copied result.1) ≡ from_bar context.now }
+    ensures fields { result.1.now ≡ from_bar context.now }
 {
-    match split_text_once(context, b'|') {
-        Some((name, fields)) => (name, Some(fields)),
-        None => (context, None),
-    }
-}
-
-/// Writes a bar and the text after it, if there is one, at the end of a text.
-pub(crate) fn write_fields(text: &mut String, fields: Option<&str>) -> Result<(), AllocError>
-    ensures { OnOk result (string_bytes text.new
-        ≡ string_bytes text.old ++ barred (option_copied fields.entry)) }
-{
-    let Some(fields) = fields else {
-        return Ok(());
-    };
-    text.push('|')?;
-    text.push_str(fields)
+    cut_text_field(context)
 }
 
 // Writes a whole number at the end of a text.
@@ -74,7 +58,7 @@ fn write_amount(text: &mut String, context: &str, by: i64) -> Result<(usize, usi
     let before = text.len();
     write_whole(text, by)?;
     let values = text.len() - before;
-    write_fields(text, fields)?;
+    text.push_str(fields)?;
     Ok((name.len(), values))
 }
 
@@ -88,7 +72,7 @@ fn write_values(text: &mut String, context: &str, values: &str) -> Result<usize,
     text.push_str(name)?;
     text.push(':')?;
     text.push_str(values)?;
-    write_fields(text, fields)?;
+    text.push_str(fields)?;
     Ok(name.len())
 }
 

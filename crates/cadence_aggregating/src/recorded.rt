@@ -3,6 +3,7 @@
 mod called;
 mod stage;
 
+ghost use Rattle.std.specs.Option.{ok_or};
 ghost use Rattle.std.specs.Prelude.{◌≡◌, ◌++◌, ◌∷◌, [], IfOk, OnErr, OnOk, length, map};
 ghost use Rattle.cadence_aggregating.specs.Notes.{sample_of_note};
 ghost use Rattle.cadence_aggregating.specs.Sums.{HasSummary};
@@ -10,7 +11,6 @@ ghost use Rattle.cadence_aggregating.specs.Sums.{HasSummary};
 use crate::limits::Limits;
 use crate::printer::Printer;
 use crate::sums::Sums;
-use cadence_aggregate::Fault;
 use cadence_errors::SinkError;
 use cadence_flow::MetricSink;
 use std::alloc::{AllocError, Global};
@@ -30,7 +30,7 @@ pub struct RecordedAggregator<S: Drop> {
 
 impl<S: MetricSink> RecordedAggregator<S> {
     ghost use Rattle.cadence_aggregating.specs.Recorded.{lines_accepted, aggregator_of, samples_held, limits_of, refusals_by, sink_of, lines_taken};
-    ghost use Rattle.cadence_aggregating.specs.Causes.{HasCountedCause, IsErrorOf};
+    ghost use Rattle.cadence_aggregating.specs.Causes.{HasCause};
     ghost use Rattle.cadence_aggregating.specs.Quiet.{IsQuiet};
     ghost use Rattle.std.specs.Prelude.{All};
     ghost use Rattle.cadence_aggregating.specs.Origins.{ComesFrom};
@@ -42,7 +42,7 @@ impl<S: MetricSink> RecordedAggregator<S> {
         ensures accepted { IfOk result (λ a. lines_accepted a ≡ []) }
         ensures taken { IfOk result (λ a. lines_taken a ≡ []) }
         ensures held { IfOk result (λ a. samples_held a ≡ []) }
-        ensures refused { IfOk result (λ a. refusals_by a ≡ 0) }
+        ensures refused { IfOk result (λ a. refusals_by a ≡ []) }
         ensures limits { IfOk result (λ a. limits_of a ≡ limits) }
     {
         let sums = Sums::new(alloc, limits)?;
@@ -53,59 +53,42 @@ impl<S: MetricSink> RecordedAggregator<S> {
         })
     }
 
-    /// Returns why a call failed.
-    pub(crate) fn error_of(&mut self, fault: Fault) -> SinkError
-        ensures accepted { lines_accepted self.new ≡ lines_accepted self.old }
-        ensures taken { lines_taken self.new ≡ lines_taken self.old }
-        ensures held { samples_held self.new ≡ samples_held self.old }
-        ensures refused { refusals_by self.new ≡ refusals_by self.old }
-        ensures cause { IsErrorOf fault result }
-        ensures limits { limits_of self.new ≡ limits_of self.old }
-    {
-        match fault {
-            Fault::Refused => self.printer.take_fault(),
-            Fault::OutOfMemory => SinkError::OutOfMemory,
-        }
-    }
-
     /// Adds what a line says to what is held of its context, or hands the line on. A line that can't be added is handed
     /// on, and so is one that is longer than the limit.
     ///
     /// # Errors
-    /// The error of the sink, if it refused a line that had to be sent, and `OutOfMemory`. After an error the line is
-    /// not added, and what was held is sent or still held.
-    pub fn add(&mut self, line: &str) -> Result<(), SinkError>
-        ensures ok { OnOk result (lines_accepted self.new
+    /// The error of the sink, if it refused a line that had to be sent, and `OutOfMemory`. After an error the result is
+    /// `None` and `fault` has the error. The line is not added then, and what was held is sent or still held.
+    pub fn add(&mut self, line: &str, fault: &mut SinkError) -> Option<()>
+        ensures ok { OnOk (ok_or result fault.new) (lines_accepted self.new
             ≡ lines_accepted self.old ++ line.now ∷ []) }
-        ensures err { OnErr result (lines_accepted self.new ≡ lines_accepted self.old) }
-        ensures quiet { OnOk result (∥ IsQuiet (limits_of self.old)
+        ensures err { OnErr (ok_or result fault.new)
+            (lines_accepted self.new ≡ lines_accepted self.old) }
+        ensures quiet { OnOk (ok_or result fault.new) (∥ IsQuiet (limits_of self.old)
             (aggregator_of self.old) line.now
             (lines_taken self.old) (lines_taken self.new) ∥₁) }
-        ensures refused { HasCountedCause (refusals_by self.old) (refusals_by self.new) result }
+        ensures refused { HasCause (refusals_by self.old) (ok_or result fault.new)
+            (refusals_by self.new) }
         ensures limits { limits_of self.new ≡ limits_of self.old }
     {
-        match self.sums.add(&mut self.printer, line) {
-            Ok(()) => Ok(()),
-            Err(fault) => Err(self.error_of(fault)),
-        }
+        self.sums.add(&mut self.printer, line, fault)
     }
 
     /// Sends one line for each context that is held, and forgets it.
     ///
     /// # Errors
-    /// The error of the sink, if it refused a line, and `OutOfMemory`. What was not sent is still held.
-    pub fn flush(&mut self) -> Result<(), SinkError>
-        ensures ok { OnOk result (samples_held self.new ≡ []) }
+    /// The error of the sink, if it refused a line, and `OutOfMemory`. The result is `None` then, and `fault` has the
+    /// error. What was not sent is still held.
+    pub fn flush(&mut self, fault: &mut SinkError) -> Option<()>
+        ensures ok { OnOk (ok_or result fault.new) (samples_held self.new ≡ []) }
         ensures accepted { lines_accepted self.new ≡ lines_accepted self.old }
-        ensures lines { OnOk result (lines_taken self.new
+        ensures lines { OnOk (ok_or result fault.new) (lines_taken self.new
             ≡ lines_taken self.old ++ map line_saying (samples_held self.old)) }
-        ensures refused { HasCountedCause (refusals_by self.old) (refusals_by self.new) result }
+        ensures refused { HasCause (refusals_by self.old) (ok_or result fault.new)
+            (refusals_by self.new) }
         ensures limits { limits_of self.new ≡ limits_of self.old }
     {
-        match self.sums.flush(&mut self.printer) {
-            Ok(()) => Ok(()),
-            Err(fault) => Err(self.error_of(fault)),
-        }
+        self.sums.flush(&mut self.printer, fault)
     }
 
     /// Returns how many contexts are held.

@@ -36,9 +36,10 @@ fn take_step<S: MetricSink>(
         ≡ lines_accepted aggregator.old ++ accepted_line step.entry result }
     ensures limits { limits_of aggregator.new ≡ limits_of aggregator.old }
 {
+    let mut fault = SinkError::NothingWritten;
     match step {
-        Step::Add(line) => aggregator.add(line),
-        Step::Flush => aggregator.flush(),
+        Step::Add(line) => aggregator.add(line, &mut fault).ok_or(fault),
+        Step::Flush => aggregator.flush(&mut fault).ok_or(fault),
     }
 }
 

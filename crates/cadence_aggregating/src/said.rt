@@ -1,22 +1,18 @@
 //! Reads what a line says. The line may be that of any client.
-ghost use Rattle.std.specs.Prelude.{◌≡◌, ◌≢◌, ◌↔◌, ◌∷◌, ◌++◌, true, ℤ, All, IfNone, IfOk, IfSome, IsTrue, OnOk, FitsSigned, string_bytes};
-ghost use Rattle.std.specs.Option.{option_copied, option_map};
-ghost use mir.Syntax.{w64};
+ghost use Rattle.std.specs.Prelude.{◌≡◌, ◌≢◌, ◌↔◌, true, All, IfNone, IfOk, IfSome, IsTrue, OnOk, string_bytes};
+ghost use Rattle.std.specs.Option.{option_map};
 ghost use Rattle.cadence_aggregate.specs.Lines.{sample_of};
-ghost use Rattle.cadence_read.specs.Cuts.{IsCut};
+ghost use Rattle.cadence_read.specs.Cuts.{parts_of_text};
+ghost use Rattle.cadence_read.specs.Values.{AreNumbers, IsNumberText};
 ghost use Rattle.cadence_value.specs.Finds.{Finds};
-ghost use Rattle.cadence_value.specs.Number.{whole};
-ghost use Rattle.cadence_value.specs.SpelledNumber.{SaysNumber};
-ghost use Rattle.cadence_aggregating.specs.Additions.{IsAddable, IsAddedAs, IsAddition, IsAdditionBy, context_of, parts_of_text};
-ghost use Rattle.cadence_aggregating.specs.Printed.{barred};
-ghost use Rattle.cadence_aggregating.specs.Says.{AreNumbers, HasComma, HasTime, IsEventName, IsNotAdded, IsNumberText, LineSays, MaySetGauge};
+ghost use Rattle.cadence_aggregating.specs.Additions.{IsAddable, IsAddedAs, IsAddition, IsAdditionBy, context_of};
+ghost use Rattle.cadence_aggregating.specs.Says.{HasComma, HasTime, IsEventName, IsNotAdded, LineSays, MaySetGauge};
+ghost use Rattle.cadence_aggregating.specs.declared.said.Addition.TheVariants.{Level};
 
-use crate::printed::write_fields;
 use cadence_aggregate::Line;
+use cadence_read::{TextParts, are_numbers, cut_text_metric, is_number, whole_number};
 use cadence_text::line::MetricType;
 use cadence_value::bytes::{split_once, split_text_once};
-use cadence_value::decimal::Decimal;
-use cadence_value::spelled::read_spelled;
 use std::alloc::AllocError;
 
 /// How the values of a line are added to others of its context.
@@ -32,86 +28,6 @@ pub(crate) enum Addition {
     Timing,
 }
 
-/// The parts of a metric's line, as `cut_line` of `cadence_read` finds them in bytes.
-#[derive(Clone, Copy)]
-pub(crate) struct TextParts<'a> {
-    name: &'a str,
-    values: &'a str,
-    kind: &'a str,
-    /// The text behind the bar after the kind, if there is one.
-    fields: Option<&'a str>,
-}
-
-// Cuts a text before its first bar, and returns the text behind that bar too, if there is one.
-fn cut_kind(text: &str) -> (&str, Option<&str>)
-    ensures whole { text.now ≡ result.0.now ++ barred (option_copied result.1) }
-    ensures front { All (λ byte. byte ≢ 124) result.0.now }
-{
-    match split_text_once(text, b'|') {
-        Some((kind, fields)) => (kind, Some(fields)),
-        None => (text, None),
-    }
-}
-
-// Cuts the line of a metric.
-fn cut_metric(line: &str) -> Option<TextParts<'_>>
-    ensures { Finds (IsCut line.now) (option_map parts_of_text result) }
-{
-    let (head, others) = split_text_once(line, b'|')?;
-    let (name, values) = split_text_once(head, b':')?;
-    let (kind, fields) = cut_kind(others);
-    Some(TextParts {
-        name,
-        values,
-        kind,
-        fields,
-    })
-}
-
-// Returns whether a text is a number, in any spelling.
-fn is_number(text: &str) -> bool
-    ensures { IsTrue result ↔ IsNumberText text.now }
-{
-    read_spelled(text).is_some()
-}
-
-// Returns whether each of the values, which have a colon between each two, is a number.
-fn are_numbers(values: &str) -> bool
-    ensures { IsTrue result ↔ AreNumbers values.now }
-{
-    let mut left = values;
-    while let Some((value, others)) = split_text_once(left, b':') {
-        if !is_number(value) {
-            return false;
-        }
-        left = others;
-    }
-    is_number(left)
-}
-
-// Returns the whole number that a decimal is, if it fits 64 bits.
-fn whole_of(number: Decimal) -> Option<i64>
-    ensures some { IfSome result (λ n. number ≡ whole n) }
-    ensures none { IfNone result ((n : ℤ) → FitsSigned w64 n → number ≡ whole n → ⊥) }
-{
-    if number.places() != 0 {
-        return None;
-    }
-    i64::try_from(number.mantissa()).ok()
-}
-
-// Returns the whole number that a text says, if it fits 64 bits.
-fn whole_number(text: &str) -> Option<i64>
-    ensures some { IfSome result (λ n. SaysNumber text.now (whole n)) }
-    ensures none { IfNone result ((n : ℤ) → FitsSigned w64 n →
-        SaysNumber text.now (whole n) → ⊥) }
-{
-    match read_spelled(text) {
-        Some(number) => whole_of(number),
-        None => None,
-    }
-}
-
 // Returns this, if each of the values is a number.
 fn if_numbers(values: &str, addition: Addition) -> Option<Addition>
     ensures some { IfSome result (λ a. (a ≡ addition) × AreNumbers values.now) }
@@ -119,6 +35,18 @@ fn if_numbers(values: &str, addition: Addition) -> Option<Addition>
 {
     if are_numbers(values) {
         return Some(addition);
+    }
+    None
+}
+
+// Returns that the value is one of a gauge, if it is a number. A gauge with several values is not added, because servers
+// differ in what they make of them.
+fn if_number(value: &str) -> Option<Addition>
+    ensures some { IfSome result (λ a. (a ≡ Level) × IsNumberText value.now) }
+    ensures none { IfNone result (IsNumberText value.now → ⊥) }
+{
+    if is_number(value) {
+        return Some(Addition::Level);
     }
     None
 }
@@ -132,7 +60,7 @@ fn addition_by(kind: MetricType, values: &str) -> Option<Addition>
             Some(by) => Some(Addition::Amount(by)),
             None => None,
         },
-        MetricType::Gauge => if_numbers(values, Addition::Level),
+        MetricType::Gauge => if_number(values),
         MetricType::Set => Some(Addition::Member),
         MetricType::Meter => None,
         MetricType::Timer | MetricType::Histogram | MetricType::Distribution => {
@@ -222,14 +150,14 @@ fn write_context(context: &mut String, parts: TextParts<'_>) -> Result<(), Alloc
     context.push_str(parts.name)?;
     context.push('|')?;
     context.push_str(parts.kind)?;
-    write_fields(context, parts.fields)
+    context.push_str(parts.fields)
 }
 
 // Returns the parts of a line whose metric can be added to others, and how it is added.
 fn addable_of(line: &str) -> Option<(TextParts<'_>, Addition)>
     ensures { Finds (IsAddedAs line.now) (option_map (λ a. (parts_of_text a.0, a.1)) result) }
 {
-    let Some(parts) = cut_metric(line) else {
+    let Some(parts) = cut_text_metric(line) else {
         return None;
     };
     if !is_addable(line, parts.name) {

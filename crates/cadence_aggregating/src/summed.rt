@@ -10,6 +10,7 @@ ghost use Rattle.cadence_aggregating.specs.Waiting.{all_notes_of};
 use crate::limits::Limits;
 use crate::sums::Sums;
 use crate::waiting::WaitingLines;
+use cadence_errors::SinkError;
 use std::alloc::{AllocError, Global};
 
 /// Adds up lines. A line that is to be sent waits until its owner has sent it: `first` returns the first such line, and
@@ -57,9 +58,10 @@ impl SummedLines {
         ensures quiet { OnOk result
             (AddsQuietly self.old line.now (waiting_in self.old) (waiting_in self.new)) }
     {
-        match self.sums.add(&mut self.waiting, line) {
-            Ok(()) => Ok(()),
-            Err(_fault) => Err(AllocError),
+        let mut fault = SinkError::NothingWritten;
+        match self.sums.add(&mut self.waiting, line, &mut fault) {
+            Some(()) => Ok(()),
+            None => Err(AllocError),
         }
     }
 
@@ -75,9 +77,10 @@ impl SummedLines {
         ensures gone { gone_in self.new ≡ gone_in self.old }
         ensures limits { limits_in self.new ≡ limits_in self.old }
     {
-        match self.sums.flush(&mut self.waiting) {
-            Ok(()) => Ok(()),
-            Err(_fault) => Err(AllocError),
+        let mut fault = SinkError::NothingWritten;
+        match self.sums.flush(&mut self.waiting, &mut fault) {
+            Some(()) => Ok(()),
+            None => Err(AllocError),
         }
     }
 

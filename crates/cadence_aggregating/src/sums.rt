@@ -1,17 +1,18 @@
 //! Lines that are added up, over any sink of what they say. `called` has the calls that make no line.
 mod called;
 
+ghost use Rattle.std.specs.Option.{ok_or};
 ghost use Rattle.std.specs.Prelude.{◌≡◌, ◌++◌, ◌∷◌, [], IfOk, OnErr, OnOk, length, true};
 ghost use Rattle.cadence_aggregate.specs.Aggregate.{CanHold, held};
 ghost use Rattle.cadence_aggregate.specs.Lines.{samples_of};
-ghost use Rattle.cadence_aggregate.specs.Refusals.{after_reply};
 ghost use Rattle.cadence_aggregate.specs.Server.{IsSummary};
 ghost use Rattle.cadence_aggregate.specs.Within.{StayWithin, if_ok};
 
 use crate::accepted::Accepted;
 use crate::limits::Limits;
 use crate::said::read_said;
-use cadence_aggregate::{Aggregator, Fault, Line, LineSink};
+use cadence_aggregate::{Aggregator, Line, LineSink, out_of_memory};
+use cadence_errors::SinkError;
 use cadence_stage::GhostList;
 use std::alloc::{AllocError, Global};
 
@@ -33,25 +34,26 @@ fn add_or_pass<S: LineSink>(
     sink: &mut S,
     said: Line<'_>,
     is_held: bool,
-) -> Result<(), Fault>
-    ensures ok { OnOk result (IsSummary
+    fault: &mut SinkError,
+) -> Option<()>
+    ensures ok { OnOk (ok_or result fault.new) (IsSummary
         ((S.sent sink.old ++ held aggregator.old) ++ samples_of said.entry)
         (S.sent sink.new ++ held aggregator.new)) }
-    ensures err { OnErr result (IsSummary
+    ensures err { OnErr (ok_or result fault.new) (IsSummary
         (S.sent sink.old ++ held aggregator.old) (S.sent sink.new ++ held aggregator.new)) }
     ensures quiet { is_held ≡ true → CanHold aggregator.old said.entry →
         S.sent sink.new ≡ S.sent sink.old }
-    ensures refused { S.refusals sink.new ≡ after_reply (S.refusals sink.old) result }
-    ensures leads { S.leads sink.old sink.new }
+    ensures leads { S.leads sink.old (ok_or result fault.new) sink.new }
     ensures limit { aggregator.new.most_bytes ≡ aggregator.old.most_bytes }
     ensures within { StayWithin aggregator.old.most_bytes
-        ((S.sent sink.old ++ held aggregator.old) ++ if_ok result (samples_of said.entry))
+        ((S.sent sink.old ++ held aggregator.old)
+        ++ if_ok (ok_or result fault.new) (samples_of said.entry))
         (S.sent sink.new ++ held aggregator.new) }
 {
     if is_held {
-        aggregator.add(sink, said)
+        aggregator.add(sink, said, fault)
     } else {
-        aggregator.pass(sink, said)
+        aggregator.pass(sink, said, fault)
     }
 }
 
@@ -81,44 +83,52 @@ impl Sums {
     /// on, and so is one that is longer than the limit.
     ///
     /// # Errors
-    /// `Refused` if the sink refused a line that had to be sent, and `OutOfMemory`. After an error the line is not
-    /// added, and what was held is sent or still held.
-    pub fn add<S: LineSink>(&mut self, sink: &mut S, line: &str) -> Result<(), Fault>
-        ensures ok { OnOk result (accepted_by self.new ≡ accepted_by self.old ++ line.now ∷ []) }
-        ensures err { OnErr result (accepted_by self.new ≡ accepted_by self.old) }
-        ensures said { OnOk result ((said : Sample) × LineSays line.now said × IsSummary
+    /// The error of the sink, if it refused a line that had to be sent, and `OutOfMemory`. After an error the result is
+    /// `None` and `fault` has the error. The line is not added then, and what was held is sent or still held.
+    pub fn add<S: LineSink>(
+        &mut self,
+        sink: &mut S,
+        line: &str,
+        fault: &mut SinkError,
+    ) -> Option<()>
+        ensures ok { OnOk (ok_or result fault.new)
+            (accepted_by self.new ≡ accepted_by self.old ++ line.now ∷ []) }
+        ensures err { OnErr (ok_or result fault.new) (accepted_by self.new ≡ accepted_by self.old) }
+        ensures said { OnOk (ok_or result fault.new)
+            ((said : Sample) × LineSays line.now said × IsSummary
             ((S.sent sink.old ++ held_by self.old) ++ said ∷ [])
             (S.sent sink.new ++ held_by self.new)) }
-        ensures unsaid { OnErr result (IsSummary
+        ensures unsaid { OnErr (ok_or result fault.new) (IsSummary
             (S.sent sink.old ++ held_by self.old) (S.sent sink.new ++ held_by self.new)) }
         ensures summary { KeepsSummary self.old self.new (S.sent sink.old) (S.sent sink.new) }
-        ensures quiet { OnOk result (∥ IsQuiet (limits_of self.old) (aggregator_of self.old)
-            line.now (S.sent sink.old) (S.sent sink.new) ∥₁) }
-        ensures refused { S.refusals sink.new ≡ after_reply (S.refusals sink.old) result }
-        ensures leads { S.leads sink.old sink.new }
+        ensures quiet { OnOk (ok_or result fault.new) (∥ IsQuiet (limits_of self.old)
+            (aggregator_of self.old) line.now (S.sent sink.old) (S.sent sink.new) ∥₁) }
+        ensures leads { S.leads sink.old (ok_or result fault.new) sink.new }
         ensures limits { limits_of self.new ≡ limits_of self.old }
     {
-        let said = read_said(line, &mut self.context)?;
+        let Ok(said) = read_said(line, &mut self.context) else {
+            return out_of_memory(fault);
+        };
         let is_held = self.limits.holds(&said, line.len());
-        add_or_pass(&mut self.aggregator, sink, said, is_held)?;
+        add_or_pass(&mut self.aggregator, sink, said, is_held, fault)?;
         self.accepted = self.accepted.and(&Accepted::of(Line::Other(line)));
-        Ok(())
+        Some(())
     }
 
     /// Sends one line for each context that is held, and forgets it.
     ///
     /// # Errors
-    /// `Refused` if the sink refused a line, and `OutOfMemory`. What was not sent is still held.
-    pub fn flush<S: LineSink>(&mut self, sink: &mut S) -> Result<(), Fault>
-        ensures ok { OnOk result (held_by self.new ≡ []) }
+    /// The error of the sink, if it refused a line, and `OutOfMemory`. The result is `None` then, and `fault` has the
+    /// error. What was not sent is still held.
+    pub fn flush<S: LineSink>(&mut self, sink: &mut S, fault: &mut SinkError) -> Option<()>
+        ensures ok { OnOk (ok_or result fault.new) (held_by self.new ≡ []) }
         ensures same { S.sent sink.new ++ held_by self.new ≡ S.sent sink.old ++ held_by self.old }
         ensures accepted { accepted_by self.new ≡ accepted_by self.old }
         ensures summary { KeepsSummary self.old self.new (S.sent sink.old) (S.sent sink.new) }
-        ensures refused { S.refusals sink.new ≡ after_reply (S.refusals sink.old) result }
-        ensures leads { S.leads sink.old sink.new }
+        ensures leads { S.leads sink.old (ok_or result fault.new) sink.new }
         ensures limits { limits_of self.new ≡ limits_of self.old }
     {
-        self.aggregator.flush(sink)
+        self.aggregator.flush(sink, fault)
     }
 
     /// Returns how many contexts are held.

@@ -1,12 +1,13 @@
 //! Lines that wait until their owner has sent them.
-ghost use Rattle.std.specs.Prelude.{◌≡◌, ◌++◌, ◌∷◌, [], IfNone, IfSome, drop, map, string_bytes, take};
+ghost use Rattle.std.specs.Prelude.{◌≡◌, ◌++◌, ◌∷◌, [], IfNone, IfOk, IfSome, drop, map, string_bytes, take};
 ghost use Rattle.cadence_aggregating.specs.Notes.{line_of_note};
 
 use crate::note::Note;
 use crate::printed::note_line;
-use cadence_aggregate::{Fault, Line, LineSink};
+use cadence_aggregate::{Line, LineSink, out_of_memory};
+use cadence_errors::SinkError;
 use cadence_stage::GhostList;
-use std::alloc::Global;
+use std::alloc::{AllocError, Global};
 use std::collections::VecDeque;
 
 /// A line that waits, with a note of what it says.
@@ -30,7 +31,7 @@ impl WaitingLines {
     ghost use Rattle.cadence_aggregating.specs.Waiting.{all_notes_of, notes_of};
 
     /// Makes a sink in which no line waits, and from which none is gone.
-    pub(crate) fn new(alloc: Global) -> WaitingLines
+    pub fn new(alloc: Global) -> WaitingLines
         ensures all { all_notes_of result ≡ [] }
         ensures waiting { notes_of result ≡ [] }
         ensures gone { result.gone.items ≡ [] }
@@ -64,27 +65,49 @@ impl WaitingLines {
             self.gone = self.gone.and(&first.note);
         }
     }
+
+    /// Returns the lines that wait, in order. The only error is that memory ran out, and then they are lost.
+    pub fn into_texts(self) -> Result<Vec<String>, AllocError>
+        ensures { IfOk result (λ texts.
+            map string_bytes texts.items ≡ map line_of_note (notes_of self)) }
+    {
+        let WaitingLines {
+            alloc,
+            mut lines,
+            gone: _,
+        } = self;
+        let mut texts = Vec::with_capacity(alloc, lines.len())?;
+        while let Some(line) = lines.pop_front() {
+            let WaitingLine { text, note: _ } = line;
+            texts.push(text)?;
+        }
+        Ok(texts)
+    }
 }
 
 impl LineSink for WaitingLines {
     ghost use Rattle.std.specs.Prelude.{map, refl};
     ghost use Rattle.cadence_aggregating.specs.Notes.{sample_of_note};
-    ghost use Rattle.cadence_aggregating.specs.Waiting.{all_notes_of, none_went};
+    ghost use Rattle.cadence_aggregating.specs.Waiting.{NoneWent, all_notes_of, none_went};
 
     ghost sent = { λ w. map sample_of_note (all_notes_of w) };
 
-    ghost refusals = { λ _. 0 };
+    ghost leads = { λ old result new. NoneWent old result new };
 
-    ghost leads = { λ a b. b.gone.items ≡ a.gone.items };
+    ghost leads_to_itself = { λ _. (refl, tt) };
 
-    ghost leads_to_itself = { λ _. refl };
+    ghost leads_nowhere = { λ _. (refl, refl) };
 
-    ghost leads_further = { λ a b c first more. none_went a b c first more };
+    ghost leads_further = { λ a b c result first more. none_went a b c result first more };
 
-    fn send(&mut self, line: Line<'_>) -> Result<(), Fault> {
+    fn send(&mut self, line: Line<'_>, fault: &mut SinkError) -> Option<()> {
         let mut text = String::new(self.alloc);
-        let note = note_line(&mut text, line)?;
-        self.lines.push_back(WaitingLine { text, note })?;
-        Ok(())
+        let Ok(note) = note_line(&mut text, line) else {
+            return out_of_memory(fault);
+        };
+        match self.lines.push_back(WaitingLine { text, note }) {
+            Ok(()) => Some(()),
+            Err(_) => out_of_memory(fault),
+        }
     }
 }

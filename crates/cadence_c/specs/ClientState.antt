@@ -1,7 +1,6 @@
 -- The state of a client of C, and what each call does to it.
 use Rattle.std.specs.Prelude.{◌≡◌, ℕ, ◌+◌, ◌%◌, ◌^◌, ◌≤◌, ◌<◌, ◌==◌, if◌then◌else◌, nat_lt, List, [], ◌∷◌, ◌++◌, length, codes, slice_get}
 use Rattle.std.specs.Prelude.{Option, Some, None, IfSome, OnErr, OnOk, Result}
-use Rattle.cadence_value.specs.Number.{Number}
 use Rattle.cadence_flow.specs.Frame.{held_packet}
 use Rattle.cadence_queue.specs.Queue.{new_queue, is_full, after_accept, after_drop}
 use Rattle.cadence_queue.specs.QueueState.{Queue}
@@ -115,13 +114,13 @@ pub record AreCountsOf (s : ClientState) (c : CCounts) : Type 0 where
   pub sent : c.sent ≡ s.queue.drained
   pub dropped : c.dropped ≡ s.queue.dropped
 
--- The client keeps the line of the metric that a call means with these settings.
-abbrev pub KeepsCall : CSettings → ℕ → List ℕ → List Number → COptions → ClientState → ClientState → Type 0
-KeepsCall c k key numbers o old new = (line : List ℕ) × IsLineWith c k key numbers o line × KeepsLine old line new
+-- The client keeps the line of the metric that a call means with these settings, with this text as its value.
+abbrev pub KeepsCall : CSettings → ℕ → List ℕ → List ℕ → COptions → ClientState → ClientState → Type 0
+KeepsCall c k key value o old new = (line : List ℕ) × IsLineWith c k key value o line × KeepsLine old line new
 
--- The client has no room for the line of the metric that a call means with these settings.
-abbrev pub LacksRoomForCall : CSettings → ℕ → List ℕ → List Number → COptions → ClientState → Type 0
-LacksRoomForCall c k key numbers o s = (line : List ℕ) × IsLineWith c k key numbers o line × LacksRoomForLine s line
+-- The client has no room for the line of the metric that a call means with these settings, with this text as its value.
+abbrev pub LacksRoomForCall : CSettings → ℕ → List ℕ → List ℕ → COptions → ClientState → Type 0
+LacksRoomForCall c k key value o s = (line : List ℕ) × IsLineWith c k key value o line × LacksRoomForLine s line
 
 -- The client makes a packet of its held text, if there is any.
 abbrev pub PacksHeld : ClientState → ClientState → Type 0

@@ -6,7 +6,6 @@ use Rattle.std.specs.Str.{IsUtf8}
 use Rattle.cadence_text.specs.Line.{tags_field}
 use Rattle.cadence_text.specs.FreeTexts.{is_clear_tag, is_free_text}
 use Rattle.cadence_settings.specs.Settings.{Settings, client_prefix}
-use Rattle.cadence_value.specs.Number.{Number}
 use Rattle.cadence_c.specs.Calls.{IsLineOfCall, c_tag, is_clear_call_of_c}
 use Rattle.cadence_c.specs.declared.call.COptions.{COptions}
 use Rattle.cadence_c.specs.declared.call.CTag.{CTag}
@@ -23,6 +22,7 @@ pub record AreTextsOf (c : CSettings) (s : Settings) : Type 0 where
   pub tags : c.tags.now ≡ tags_field s.tags
   pub container : container_of c ≡ s.container
   pub strict : c.strict ≡ s.strict
+  pub cleaned : c.cleaned ≡ s.cleaned
 
 -- The texts are UTF-8.
 pub record IsUtf8Settings (c : CSettings) : Type 0 where
@@ -48,6 +48,6 @@ allows_prefix strict prefix = not strict || is_free_text (client_prefix prefix)
 abbrev pub allows_tags : Bool → List CTag → Bool
 allows_tags strict tags = not strict || list_all is_clear_tag (map c_tag tags)
 
--- For all settings that have these texts, this is the line of the call.
-abbrev pub IsLineWith : CSettings → ℕ → List ℕ → List Number → COptions → List ℕ → Type 0
-IsLineWith c k key numbers o line = (s : Settings) → AreTextsOf c s → IsLineOfCall s k key numbers o line
+-- For all settings that have these texts, this is the line of the call whose value has this text.
+abbrev pub IsLineWith : CSettings → ℕ → List ℕ → List ℕ → COptions → List ℕ → Type 0
+IsLineWith c k key value o line = (s : Settings) → AreTextsOf c s → IsLineOfCall s k key value o line

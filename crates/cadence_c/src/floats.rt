@@ -1,14 +1,16 @@
-//! The decimals of floats, for a host whose numbers are floats. The calls need no client, and threads may make them at the
-//! same time.
-ghost use Rattle.std.specs.Prelude.{◌≡◌, ◌≢◌, ◌⊎◌, [], ◌∷◌};
+//! The decimals of floats, for a host whose numbers are floats, and which calls of a sample are chosen. The calls need no
+//! client, and threads may make them at the same time.
+ghost use Rattle.std.specs.Prelude.{◌≡◌, ◌≢◌, ◌⊎◌, ◌↔◌, [], ◌∷◌, IsTrue};
+ghost use Rattle.cadence_value.specs.Chances.{IsBelow, IsChance};
 ghost use Rattle.cadence_value.specs.Number.{Number};
 ghost use Rattle.cadence_float.specs.Worth.{IsTooLarge, StandsForFloat};
-ghost use Rattle.cadence_c.specs.Calls.{IsMillisOf, IsNumberOf, PassesDecimal};
+ghost use Rattle.cadence_c.specs.Calls.{IsMillisOf, IsNoChance, IsNumberOf, PassesDecimal};
 ghost use Rattle.cadence_c.specs.Status.{CADENCE_INVALID, CADENCE_OK, IsOkOr};
 
-use crate::call::CDecimal;
+use crate::call::{CDecimal, decimal_of};
 use crate::status::{OK, StatusError};
 use cadence_float::{decimal_of_float, rounded_decimal_of_float};
+use cadence_value::chance::Chance;
 use cadence_value::decimal::Decimal;
 use std::alloc::Global;
 
@@ -68,4 +70,29 @@ pub extern "C" fn cadence_rounded_of_double(
         Some(decimal) => store(decimal, number),
         None => StatusError::Invalid.code(),
     }
+}
+
+/// Stores whether a call of a sample is chosen: with this chance, if `draw` is a random number of 64 bits. The status is that
+/// of `Invalid` if the number is no chance: it is above 0 and at most 1, and has at most 18 places.
+#[unsafe(no_mangle)]
+pub extern "C" fn cadence_chooses(
+    _alloc: Global,
+    chance: &CDecimal,
+    draw: u64,
+    chosen: &mut bool,
+) -> u32
+    ensures chosen { result ≡ CADENCE_OK → (n : Number) × IsNumberOf chance.now n × IsChance n
+        × (IsTrue chosen.new ↔ IsBelow draw n) }
+    ensures kept { result ≢ CADENCE_OK → chosen.new ≡ chosen.old }
+    ensures invalid { result ≡ CADENCE_INVALID → IsNoChance chance.now }
+    ensures statuses { IsOkOr (CADENCE_INVALID ∷ []) result }
+{
+    let Ok(number) = decimal_of(*chance) else {
+        return StatusError::Invalid.code();
+    };
+    let Some(chance) = Chance::new(number) else {
+        return StatusError::Invalid.code();
+    };
+    *chosen = chance.is_above(draw);
+    OK
 }

@@ -1,5 +1,6 @@
 //! The client for C. It formats lines and packs them into packets, and C sends the packets. This module has the calls
-//! that take a handle. `include/cadence.h` declares each call and says which statuses it returns. The modules:
+//! that take a handle and make no line. `include/cadence.h` declares each call and says which statuses it returns.
+//! The modules:
 //! - `call`: the arguments of a call of C, and their conversion
 //! - `value`: the values of a call
 //! - `settings`: the settings, as texts that the host keeps
@@ -9,6 +10,7 @@
 //! - `container`: the default container, which is that of the process if a variable says so
 //! - `variable`: the variables by their numbers in C
 //! - `line`: the line of a call
+//! - `metrics`: the calls that keep the line of a metric
 //! - `format`: the calls that write a line and need no client
 //! - `floats`: the decimals of floats
 //! - `status`: the statuses that calls return, and the copy of a text into a buffer of C
@@ -31,6 +33,7 @@ mod format;
 mod handle;
 mod laws;
 mod line;
+mod metrics;
 mod packet;
 mod settings;
 mod status;
@@ -41,24 +44,16 @@ mod value;
 mod variable;
 
 ghost use Rattle.std.specs.Prelude.{◌≡◌, ◌≢◌, ◌⊎◌, ◌≤◌, ◌<◌, [], ◌∷◌, None, Some, length, map, take, true};
-ghost use Rattle.cadence_value.specs.Number.{natural, whole};
-ghost use Rattle.cadence_value.specs.Values.{numbers_of};
 ghost use Rattle.cadence_c.specs.Handle.{client_of, IsOpenAnd, OnOpen};
-ghost use Rattle.cadence_c.specs.Results.{Keeps, UnchangedUnlessOk};
-ghost use Rattle.cadence_c.specs.Calls.{AreFloatsInRange, AreNumbersOf, AreNumbersOfFloats, AreValidDecimals, IsUtf8IfKnown, durations_of};
-ghost use Rattle.cadence_c.specs.Texts.{IsUtf8Settings};
+ghost use Rattle.cadence_c.specs.Results.{UnchangedUnlessOk};
 ghost use Rattle.cadence_c.specs.ClientState.{policy_named, AreCountsOf, DropsHeld, DropsOldest, PacksHeld, HasNoPacket, IsNew, IsOldest, IsOldestLength, KeepsLine, LacksRoomForHeld, LacksRoomForLine};
 ghost use Rattle.cadence_c.specs.Status.{CADENCE_FULL, CADENCE_INVALID, CADENCE_NO_CLIENT, CADENCE_NO_MEMORY, CADENCE_NO_PACKET, CADENCE_OK, CADENCE_TOO_SMALL, IsOkOr};
 
 use cadence_queue::QueuePolicy;
-use cadence_value::value::MetricValue;
-use call::{CDecimal, COptions};
 use client::{CCounts, Client};
 use handle::Handle;
-use settings::CSettings;
 use status::{NO_CLIENT, OK, StatusError, status_of};
 use std::alloc::Global;
-use value::{decimal_value, duration_value, floating_value, signed_value, unsigned_value};
 
 // Returns the policy that has this number in C, if one has it.
 fn policy_of(policy: u32) -> Option<QueuePolicy>
@@ -109,142 +104,6 @@ pub extern "C" fn cadence_free(alloc: Global, handle: &mut Handle)
     ensures { client_of handle.new ≡ None }
 {
     *handle = Handle::empty(alloc);
-}
-
-// Keeps the line of a call's value.
-// Without this hint a counter of `bindings/c/speed.c` takes 11 instructions more.
-#[inline(always)]
-fn keep(
-    alloc: Global,
-    handle: &mut Handle,
-    settings: &CSettings<'_>,
-    kind: u32,
-    key: &[u8],
-    value: MetricValue,
-    options: &COptions<'_>,
-) -> u32
-    requires settings { options.now.known ≡ true → IsUtf8Settings settings.now }
-    requires texts { IsUtf8IfKnown key.now options.now }
-    ensures { Keeps result settings.now kind key.now (λ ns. ns ≡ numbers_of value) ⊥ options.now
-        handle.old handle.new }
-{
-    let Some(mut client) = handle.take(alloc) else {
-        return NO_CLIENT;
-    };
-    let status = status_of(client.keep(alloc, settings, kind, key, value, options));
-    handle.put(client);
-    status
-}
-
-/// Keeps the line of a metric of signed whole numbers.
-#[unsafe(no_mangle)]
-pub extern "C" fn cadence_signed(
-    alloc: Global,
-    handle: &mut Handle,
-    settings: &CSettings<'_>,
-    kind: u32,
-    key: &[u8],
-    values: &[i64],
-    options: &COptions<'_>,
-) -> u32
-    requires settings { options.now.known ≡ true → IsUtf8Settings settings.now }
-    requires texts { IsUtf8IfKnown key.now options.now }
-    ensures { Keeps result settings.now kind key.now (λ ns. ns ≡ map whole values.now)
-        ⊥ options.now handle.old handle.new }
-{
-    match signed_value(alloc, values) {
-        Ok(value) => keep(alloc, handle, settings, kind, key, value, options),
-        Err(error) => error.code(),
-    }
-}
-
-/// Keeps the line of a metric of unsigned whole numbers.
-#[unsafe(no_mangle)]
-pub extern "C" fn cadence_unsigned(
-    alloc: Global,
-    handle: &mut Handle,
-    settings: &CSettings<'_>,
-    kind: u32,
-    key: &[u8],
-    values: &[u64],
-    options: &COptions<'_>,
-) -> u32
-    requires settings { options.now.known ≡ true → IsUtf8Settings settings.now }
-    requires texts { IsUtf8IfKnown key.now options.now }
-    ensures { Keeps result settings.now kind key.now (λ ns. ns ≡ map natural values.now)
-        ⊥ options.now handle.old handle.new }
-{
-    match unsigned_value(alloc, values) {
-        Ok(value) => keep(alloc, handle, settings, kind, key, value, options),
-        Err(error) => error.code(),
-    }
-}
-
-/// Keeps the line of a metric of decimal numbers.
-#[unsafe(no_mangle)]
-pub extern "C" fn cadence_decimal(
-    alloc: Global,
-    handle: &mut Handle,
-    settings: &CSettings<'_>,
-    kind: u32,
-    key: &[u8],
-    values: &[CDecimal],
-    options: &COptions<'_>,
-) -> u32
-    requires settings { options.now.known ≡ true → IsUtf8Settings settings.now }
-    requires texts { IsUtf8IfKnown key.now options.now }
-    ensures { Keeps result settings.now kind key.now (AreNumbersOf values.now)
-        (AreValidDecimals values.now → ⊥) options.now handle.old handle.new }
-{
-    match decimal_value(alloc, values) {
-        Ok(value) => keep(alloc, handle, settings, kind, key, value, options),
-        Err(error) => error.code(),
-    }
-}
-
-/// Keeps the line of a metric of floats. In a timer they are rounded to six places.
-#[unsafe(no_mangle)]
-pub extern "C" fn cadence_floating(
-    alloc: Global,
-    handle: &mut Handle,
-    settings: &CSettings<'_>,
-    kind: u32,
-    key: &[u8],
-    values: &[f64],
-    options: &COptions<'_>,
-) -> u32
-    requires settings { options.now.known ≡ true → IsUtf8Settings settings.now }
-    requires texts { IsUtf8IfKnown key.now options.now }
-    ensures { Keeps result settings.now kind key.now (AreNumbersOfFloats kind values.now)
-        (AreFloatsInRange values.now → ⊥) options.now handle.old handle.new }
-{
-    match floating_value(alloc, kind, values) {
-        Ok(value) => keep(alloc, handle, settings, kind, key, value, options),
-        Err(error) => error.code(),
-    }
-}
-
-/// Keeps the line of a metric of durations in nanoseconds. A timer prints whole milliseconds and a histogram
-/// nanoseconds.
-#[unsafe(no_mangle)]
-pub extern "C" fn cadence_duration(
-    alloc: Global,
-    handle: &mut Handle,
-    settings: &CSettings<'_>,
-    kind: u32,
-    key: &[u8],
-    nanos: &[u64],
-    options: &COptions<'_>,
-) -> u32
-    requires settings { options.now.known ≡ true → IsUtf8Settings settings.now }
-    requires texts { IsUtf8IfKnown key.now options.now }
-    ensures { Keeps result settings.now kind key.now (λ ns. durations_of kind nanos.now ≡ Some ns)
-        (durations_of kind nanos.now ≡ None) options.now handle.old handle.new }
-{
-    match duration_value(alloc, kind, nanos) {
-        Ok(value) => keep(alloc, handle, settings, kind, key, value, options),
-        Err(error) => error.code(),
-    }
 }
 
 /// Keeps a line that the host has made.

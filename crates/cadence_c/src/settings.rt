@@ -8,7 +8,7 @@ ghost use Rattle.cadence_c.specs.Texts.{AreTextsOf, HasTextsOf, IsUtf8Settings, 
 use crate::call::{COptions, are_clear_options, read_text};
 use cadence_settings::text_is_free;
 
-/// The texts of settings, and whether the settings are strict. `prefix` is what each line begins with, `tags` is the text
+/// The texts of settings, whether the settings are strict, and whether they clean the texts of calls. `prefix` is what each line begins with, `tags` is the text
 /// of the default tags, and `container` is the default container if `contained` is set.
 #[repr(C)]
 #[derive(Clone, Copy)]
@@ -18,6 +18,7 @@ pub struct CSettings<'a> {
     pub container: &'a [u8],
     pub contained: bool,
     pub strict: bool,
+    pub cleaned: bool,
 }
 
 /// The texts of settings that are UTF-8.

@@ -98,7 +98,7 @@ impl<A: Allocator + Clone> Environment<A> {
     {
         let destination = read_destination(alloc.clone()?, variables)?;
         let prefix = String::from_str(alloc.clone()?, read_prefix(variables.prefix)?)?;
-        let tags = read_tags(alloc, variables)?;
+        let tags = read_tags(alloc, variables, false)?;
         let finds_container = read_origin(variables.origin)?;
         Ok(Environment {
             destination,
@@ -146,7 +146,19 @@ impl<A: Allocator + Clone> Environment<A> {
         rt: &R,
     ) -> Result<Vec<OwnedTag<A>, A>, EnvironmentError> {
         let tags = TagTexts::read(rt)?;
-        read_tags(rt.alloc(), &tags.lend(Variables::none()))
+        read_tags(rt.alloc(), &tags.lend(Variables::none()), false)
+    }
+
+    /// Reads the tags as `read_tags` does, for settings that clean texts: a separator in a text is no reason to refuse it,
+    /// because the settings replace it.
+    ///
+    /// # Errors
+    /// Those of `read`. Of the separators, only a colon before the text of a tag of `DD_TAGS` is refused.
+    pub fn read_tags_to_clean<R: Env + Alloc<A = A>>(
+        rt: &R,
+    ) -> Result<Vec<OwnedTag<A>, A>, EnvironmentError> {
+        let tags = TagTexts::read(rt)?;
+        read_tags(rt.alloc(), &tags.lend(Variables::none()), true)
     }
 }
 

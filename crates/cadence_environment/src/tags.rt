@@ -1,10 +1,10 @@
 //! The tags that the variables say.
-ghost use Rattle.std.specs.Prelude.{◌≡◌, ◌==◌, ◌++◌, ◌∷◌, [], IfErr, IfOk, OnOk, map};
+ghost use Rattle.std.specs.Prelude.{◌≡◌, ◌==◌, ◌++◌, ◌∷◌, [], IfErr, IfOk, OnOk, map, true};
 ghost use Rattle.std.specs.Option.{option_copied};
 ghost use Rattle.cadence_text.specs.Owned.{tag_of_owned};
 ghost use Rattle.cadence_text.specs.Record.{tag_of};
 ghost use Rattle.std.specs.List.{flat_map, slice_split};
-ghost use Rattle.cadence_environment.specs.EnvironmentFaults.{IsFaultOf, IsRefusedVariable, IsSetFault, NamesNoPath};
+ghost use Rattle.cadence_environment.specs.EnvironmentFaults.{IsFaultOf, IsMemoryOr, IsRefusedVariable, IsSetFault, NamesNoPath};
 ghost use Rattle.cadence_environment.specs.declared.variables.Variable.TheVariants as variable;
 ghost use Rattle.cadence_environment.specs.TagTexts.{is_overridden, own_tag, piece_tags, pieces_of, tag_of_text, tags_said};
 
@@ -40,20 +40,23 @@ fn has_mark(text: &str) -> bool {
 }
 
 // Adds the tag whose value a variable has, if the variable is set: `DD_ENV=prod` adds the tag `env:prod`, for example.
+// A text that is cleaned later may have separators.
 fn push_own<A: Allocator + Clone>(
     tags: &mut Tags<A>,
     key: &'static str,
     variable: Variable,
     text: &str,
+    is_cleaned: bool,
 ) -> Result<(), EnvironmentError>
     ensures said { OnOk result (map tag_of_owned tags.new.items
         ≡ map tag_of_owned tags.old.items ++ own_tag key.now text.now) }
     ensures refused { IfErr result (IsSetFault variable text.now) }
+    ensures cleaned { is_cleaned ≡ true → IfErr result (IsMemoryOr ⊥) }
 {
     if text.is_empty() {
         return Ok(());
     }
-    if has_mark(text) {
+    if !is_cleaned && has_mark(text) {
         return Err(EnvironmentError::Unusable(variable));
     }
     push_tag(
@@ -157,10 +160,11 @@ fn push_pieces<A: Allocator + Clone>(
     Ok(())
 }
 
-// Adds the tags of `DD_TAGS`.
+// Adds the tags of `DD_TAGS`. A text that is cleaned later may have bars and newlines.
 fn push_listed<A: Allocator + Clone>(
     tags: &mut Tags<A>,
     variables: &Variables<'_>,
+    is_cleaned: bool,
 ) -> Result<(), EnvironmentError>
     ensures said { OnOk result (map tag_of_owned tags.new.items ≡ map tag_of_owned tags.old.items
         ++ flat_map (piece_tags variables.now) (pieces_of variables.now.tags.now)) }
@@ -170,28 +174,38 @@ fn push_listed<A: Allocator + Clone>(
     if text.is_empty() {
         return Ok(());
     }
-    if text.contains('|') || text.contains('\n') {
+    if !is_cleaned && (text.contains('|') || text.contains('\n')) {
         return Err(EnvironmentError::Unusable(Variable::Tags));
     }
     let pieces = split_pieces(tags.allocator().clone()?, text)?;
     push_pieces(tags, variables, &pieces)
 }
 
-// Returns the tags that the variables say, in order.
+// Returns the tags that the variables say, in order. If their texts are cleaned later (`is_cleaned`), a separator in one
+// is no reason to refuse it.
 pub(crate) fn read_tags<A: Allocator + Clone>(
     alloc: A,
     variables: &Variables<'_>,
+    is_cleaned: bool,
 ) -> Result<Tags<A>, EnvironmentError>
     ensures said { IfOk result (λ tags. map tag_of_owned tags.items ≡ tags_said variables.now) }
     ensures refused { IfErr result (IsRefusedVariable variables.now) }
     ensures paths { IfErr result (NamesNoPath variables.now) }
+    ensures cleaned { is_cleaned ≡ true → IfErr result (IsFaultOf variable.Tags) }
 {
-    let mut tags = Vec::new(alloc);
-    push_own(&mut tags, "env", Variable::Env, variables.env)?;
-    push_own(&mut tags, "service", Variable::Service, variables.service)?;
-    push_own(&mut tags, "version", Variable::Version, variables.version)?;
-    push_listed(&mut tags, variables)?;
+    let (env, service, version) = (variables.env, variables.service, variables.version);
     let id = variables.entity_id;
-    push_own(&mut tags, "dd.internal.entity_id", Variable::EntityId, id)?;
+    let mut tags = Vec::new(alloc);
+    push_own(&mut tags, "env", Variable::Env, env, is_cleaned)?;
+    push_own(&mut tags, "service", Variable::Service, service, is_cleaned)?;
+    push_own(&mut tags, "version", Variable::Version, version, is_cleaned)?;
+    push_listed(&mut tags, variables, is_cleaned)?;
+    push_own(
+        &mut tags,
+        "dd.internal.entity_id",
+        Variable::EntityId,
+        id,
+        is_cleaned,
+    )?;
     Ok(tags)
 }

@@ -3,16 +3,11 @@
 //! A bar ends a field, a comma a tag, and a newline the line. The format has no escape for them, so a text with one of
 //! them would say something else to a server. The test is that of a strict client, which also refuses a colon anywhere
 //! but in the text of a tag with a key.
-ghost use Rattle.std.specs.Prelude.{◌≡◌, map};
-ghost use Rattle.std.specs.List.{list_all};
+ghost use Rattle.std.specs.Prelude.{◌≡◌};
 ghost use Rattle.std.specs.Option.{option_copied};
 ghost use Rattle.cadence_events.specs.Refusals.{has_no_bar};
-ghost use Rattle.cadence_text.specs.FreeTexts.{is_free_if_any, is_clear_tag};
-ghost use Rattle.cadence_text.specs.Record.{tag_of};
 
 use cadence_errors::{InputError, Reason};
-use cadence_settings::{tag_is_clear, text_is_free};
-use cadence_text::line::Tag;
 use std::fmt;
 
 /// Which text of an event or of a service check was refused, because no line can have it. Each kind of text but
@@ -59,35 +54,6 @@ impl fmt::Display for Unfit {
     fn fmt<W: fmt::Write>(&self, f: &mut fmt::Formatter<W>) -> fmt::Result {
         f.write_str(self.message())
     }
-}
-
-/// Returns whether a text has no separator, if there is a text.
-pub(crate) fn any_is_free(text: Option<&str>) -> bool
-    ensures { result ≡ is_free_if_any (option_copied text.entry) }
-{
-    match text {
-        Some(text) => text_is_free(text),
-        None => true,
-    }
-}
-
-// Returns whether a tag is clear: it has no separator, except colons after its key.
-fn is_clear(tag: &Tag<'_>) -> bool
-    ensures { result ≡ is_clear_tag (tag_of tag.now) }
-{
-    tag_is_clear(tag.key, tag.text)
-}
-
-/// Returns whether each tag of the list is clear.
-pub(crate) fn tags_are_clear(tags: &[Tag<'_>]) -> bool
-    ensures { result ≡ list_all is_clear_tag (map tag_of tags.now) }
-{
-    for tag in tags {
-        if !is_clear(tag) {
-            return false;
-        }
-    }
-    true
 }
 
 /// Returns whether a message has no bar, if there is a message.

@@ -10,8 +10,8 @@ ghost use Rattle.cadence_value.specs.Takes.{Takes};
 
 use crate::fields::{push_field, push_message_field, push_seconds, push_tags};
 use crate::lined::{Common, Lined, length_of, line_with};
-use crate::refusal::{LineError, Unfit, any_is_free, is_without_bar, tags_are_clear};
-use cadence_settings::text_is_free;
+use crate::refusal::{LineError, Unfit, is_without_bar};
+use cadence_settings::{any_is_free, tags_are_clear, text_is_free};
 use cadence_text::line::Tag;
 use cadence_value::text::PieceWriter;
 use std::alloc::Allocator;

@@ -3,6 +3,7 @@ ghost use Rattle.std.specs.Option.{ok_or};
 ghost use Rattle.std.specs.Prelude.{◌≡◌, [], ◌∷◌, ◌++◌, map, string_bytes};
 ghost use mathlib.Core.List.{IsPrefix};
 ghost use Rattle.cadence_stage.specs.Call.{Flush, Line, call_of};
+ghost use Rattle.cadence_stage.specs.Kept.{IsStep};
 ghost use Rattle.cadence_stage.specs.Past.{lines_in, taken_in};
 
 use cadence_errors::SinkError;
@@ -22,8 +23,8 @@ pub struct FedLogs<A: Allocator> {
 /// A stage that one worker feeds. Nobody else can give it a line, because that takes the right of its log, and the worker
 /// has that one. So three facts are true of it whenever its lock is free: its log is the one that its type names
 /// (`names`); it took just those lines of the log which it answered with a number (`taken`); and the lines of the log
-/// are the first ones that were taken from the queue, in order (`begins`).
-#[derive(Drop)]
+/// are the first ones that were taken from the queue, in order (`begins`). It has no `Drop`, so that its owner has to flush
+/// it in the end, by `finish`.
 pub struct FedStage<S: Stage, A: Allocator, J: Names> {
     stage: S,
     fed: Log<Entry>,
@@ -102,7 +103,9 @@ impl<S: Stage, A: Allocator, J: Names> FedStage<S, A, J> {
     }
 
     /// Flushes the stage, and ends it. After an error, the rest is lost.
-    pub(crate) fn finish(self) -> Result<(), SinkError> {
+    pub(crate) fn finish(self) -> Result<(), SinkError>
+        ensures { IsStep S.step (Flush result) }
+    {
         let FedStage {
             mut stage,
             fed: _,

@@ -8,6 +8,7 @@ use Rattle.cadence_value.specs.Number.{numbers_text}
 use Rattle.cadence_read.specs.declared.any_line.AnyLine.{AnyLine}
 use Rattle.cadence_read.specs.declared.any_line.AnyLine.TheVariants.{Event, MetricLine, Opaque, ServiceCheck}
 use Rattle.cadence_read.specs.declared.any_line.MetricParts.{MetricParts}
+use Rattle.cadence_read.specs.declared.text_parts.TextParts.{TextParts}
 
 -- the parts of a metric's line
 pub record Parts : Type 0 where
@@ -46,6 +47,10 @@ IsServiceCheck line = (rest : List ℕ) × (line ≡ codes "_sc|" ++ rest)
 -- the parts that a function returned
 abbrev pub parts_of : MetricParts → Parts
 parts_of p = record { name = p.name.now; values = p.values.now; kind = p.kind.now; fields = p.fields.now }
+
+-- the parts that a function returned as texts
+abbrev pub parts_of_text : TextParts → Parts
+parts_of_text p = record { name = p.name.now; values = p.values.now; kind = p.kind.now; fields = p.fields.now }
 
 -- The line is neither an event nor a service check.
 abbrev pub IsOther : List ℕ → Type 0

@@ -4,3 +4,4 @@ pub mod Faults
 pub mod Listed
 pub mod LineTexts
 pub mod Reads
+pub mod Values

@@ -36,7 +36,7 @@ pub enum AnyLine<'a> {
 }
 
 // Cuts a text before its first bar.
-fn cut_field(text: &[u8]) -> (&[u8], &[u8])
+pub(crate) fn cut_field(text: &[u8]) -> (&[u8], &[u8])
     ensures whole { text.now ≡ result.0.now ++ result.1.now }
     ensures front { All (λ byte. byte ≢ 124) result.0.now }
     ensures fields { AreFields result.1.now }
@@ -49,7 +49,7 @@ fn cut_field(text: &[u8]) -> (&[u8], &[u8])
 
 // Cuts the line of a metric. Returns `None` if the line has no colon, or no bar behind its first colon, or a bar before
 // it.
-fn cut_metric(line: &[u8]) -> Option<MetricParts<'_>>
+pub(crate) fn cut_metric(line: &[u8]) -> Option<MetricParts<'_>>
     ensures { Finds (IsCut line.now) (option_map parts_of result) }
 {
     let (head, others) = split_once(line, b'|')?;

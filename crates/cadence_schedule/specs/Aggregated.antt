@@ -9,7 +9,7 @@ use Rattle.cadence_schedule.specs.Headline.{Given, HasReplies, turns_of, kept_of
 use Rattle.cadence_schedule.specs.Packed.{ArePacked, lines_in}
 use Rattle.cadence_schedule.specs.Report.{Outcome}
 use Rattle.cadence_schedule.specs.Asked.{AskAll}
-use Rattle.cadence_schedule.specs.Sendings.{Sending}
+use Rattle.cadence_stage.specs.Call.{Call}
 use Rattle.cadence_schedule.specs.declared.aggregated_report.AggregatedReport.{AggregatedReport}
 
 -- the outcome that a report shows
@@ -28,8 +28,9 @@ outcome_shown report = record {
 abbrev pub held_in_report : {W A : Type 0} → AggregatedReport W A → List Sample
 held_in_report report = held report.aggregator
 
--- What a run is given, if its hand gives lines to an aggregator and not to a packer. An aggregator takes a whole line, or
--- refuses it, and a refusal may have any error.
+-- In a run with an aggregator the aggregator answers hands and flushes, and not the packer over the writer. So the kind of
+-- the writer, by which `HasReplies` judges these answers, is replaced by that of an aggregator: it takes each line whole or
+-- refuses it, and an error may be any.
 abbrev pub with_aggregator : {A : Type 0} → Given A → Given A
 with_aggregator given = record given {
   kind = record given.kind { may_give = λ e. true; takes_whole = true };
@@ -37,7 +38,7 @@ with_aggregator given = record given {
 
 module _ {W A : Type 0} (history : W → PacketHistory) (given : Given A) (outcome : Outcome W A) where
   -- The packer was asked all of this, and holds what these samples say.
-  pub record HasAggregated (summed : List Sample) (all : List Sending) : Type 0 where
+  pub record HasAggregated (summed : List Sample) (all : List Call) : Type 0 where
     -- Each reply has its stated cause, and the queue, its counts and the hand are left as the steps and replies say.
     pub replies : HasReplies history (with_aggregator given) outcome
     -- A hand made the packer keep lines, and a flush made it keep lines and then flush. If one failed, the last thing

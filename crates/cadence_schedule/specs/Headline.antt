@@ -20,17 +20,17 @@ use Rattle.cadence_schedule.specs.Packets.{ArePacketsOf, ReadsAs}
 use Rattle.cadence_schedule.specs.Plan.{groups_of, IsFewest, NoGroupHasRoom}
 use Rattle.cadence_schedule.specs.Replies.{MayReplyAfter}
 use Rattle.cadence_schedule.specs.Report.{Outcome}
-use Rattle.cadence_settings.specs.Settings.{Settings}
+use Rattle.cadence_settings.specs.Settings.{Settings, clears_texts}
 
 -- The writer reports its packets, and it takes each packet whole or refuses it.
 abbrev pub ReportsWhole : WriterKind → Type 0
 ReportsWhole kind = (kind.reports ≡ true) × (kind.takes_whole ≡ true)
 
--- what a run is given: the metric of each call, whether the settings are strict, the writer's kind and its history
--- before the run, the packer's capacity and ending, the queue's capacity and policy, and the steps
+-- what a run is given: the metric of each call, whether the settings are strict or clean texts, the writer's kind and
+-- its history before the run, the packer's capacity and ending, the queue's capacity and policy, and the steps
 pub record Given (A : Type 0) : Type 0 where
   pub metric_of : Call A → Option Metric
-  pub strict : Bool
+  pub clears : Bool
   pub kind : WriterKind
   pub before : PacketHistory
   pub format : Format
@@ -44,7 +44,7 @@ abbrev pub given_of : {W A : Type 0} → (W → WriterKind) → (W → PacketHis
 given_of kind history settings capacity ending queue policy steps writer =
     record {
       metric_of = metric_of_data settings;
-      strict = settings.strict;
+      clears = clears_texts settings;
       kind = kind writer;
       before = history writer;
       format = record { capacity = capacity; ending = ending };
@@ -158,10 +158,10 @@ module _ {W A : Type 0} (history : W → PacketHistory) (given : Given A) (outco
     -- packets and the held text can be read as the kept metrics, and as no other clear metrics.
     pub clear_reading : ReportsWhole given.kind → given.format.ending ≡ codes "\n" → All IsClear (kept given.metric_of turns_of)
         → ReadsAs IsClear (kept given.metric_of turns_of) packets_of_run outcome.held
-    -- With strict settings, the kept metrics are clear, whatever texts the calls have: no text of them has a separator,
-    -- except colons after the keys of tags.
-    pub strict_clear : given.strict ≡ true → All IsClear (kept given.metric_of turns_of)
-    -- With the newline as ending and strict settings, the packets and the held text can be read as the kept metrics, and
-    -- as no other clear metrics, whatever texts the calls have.
-    pub strict_reading : ReportsWhole given.kind → given.format.ending ≡ codes "\n" → given.strict ≡ true
+    -- With settings that are strict or clean texts, the kept metrics are clear, whatever texts the calls have: no text of
+    -- them has a separator, except colons after the keys of tags.
+    pub cleared : given.clears ≡ true → All IsClear (kept given.metric_of turns_of)
+    -- With the newline as ending and such settings, the packets and the held text can be read as the kept metrics, and as
+    -- no other clear metrics, whatever texts the calls have.
+    pub cleared_reading : ReportsWhole given.kind → given.format.ending ≡ codes "\n" → given.clears ≡ true
         → ReadsAs IsClear (kept given.metric_of turns_of) packets_of_run outcome.held

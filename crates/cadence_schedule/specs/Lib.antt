@@ -1,11 +1,10 @@
 pub mod Aggregated
 pub mod Asked
-pub mod Causes
+pub mod Calls
 pub mod Cut
 pub mod Headline
 pub mod InTurn
 pub mod RunHistory
-pub mod Joined
 pub mod Laws
 pub mod Leads
 pub mod Led
@@ -18,7 +17,6 @@ pub mod Replies
 pub mod RunOutcome
 pub mod Report
 pub mod Running
-pub mod Sendings
 pub mod SumsCalls
 pub use Rattle.cadence_errors.specs.Errors
 pub use Rattle.cadence_text.specs.Line

@@ -9,7 +9,8 @@ use Rattle.cadence_schedule.specs.declared.steps.Step.TheVariants as step
 use Rattle.cadence_schedule.specs.declared.steps.Reply.TheVariants as reply
 use Rattle.cadence_schedule.specs.RunHistory.{Turn}
 use Rattle.cadence_schedule.specs.Replies.{CallReplies}
-use Rattle.cadence_schedule.specs.Sendings.{Sending, wrote, flushed}
+use Rattle.cadence_stage.specs.Call.{Flush, Line}
+use Rattle.cadence_stage.specs.Call as stage
 
 -- the queue and the hand between two steps
 pub record QueueState : Type 0 where
@@ -29,9 +30,9 @@ abbrev pub at_start : QueueState
 at_start = record { waiting = []; stopped = false; submitted = 0; drained = 0; dropped = 0; in_hand = None }
 
 -- what the turn gives to the packer, or to the sums before it, if this is the line in hand
-abbrev pub given_in : {A : Type 0} → Turn A → Option (List ℕ) → List Sending
-given_in (step.Hand, reply.Handed result) (Some line) = wrote line result ∷ []
-given_in (step.Flush, reply.Flushed result) hand = flushed result ∷ []
+abbrev pub given_in : {A : Type 0} → Turn A → Option (List ℕ) → List stage.Call
+given_in (step.Hand, reply.Handed result) (Some line) = Line line result ∷ []
+given_in (step.Flush, reply.Flushed result) hand = Flush result ∷ []
 given_in turn hand = []
 
 -- by the line of each call, and the queue's capacity and policy
@@ -64,7 +65,7 @@ module _ {A : Type 0} (line_of : Call A → Option (List ℕ)) (queue : Option �
   Moves old _ new = ⊥
 
   -- The steps, each with its reply, lead from the old state to the new one, and give all of this.
-  abbrev pub Goes : QueueState → List (Turn A) → List Sending → QueueState → Type 0
+  abbrev pub Goes : QueueState → List (Turn A) → List stage.Call → QueueState → Type 0
   Goes old [] given new = (given ≡ []) × (new ≡ old)
   Goes old (turn ∷ turns) given new =
-      (mid : QueueState) × (rest : List Sending) × (given ≡ given_in turn old.in_hand ++ rest) × Moves old turn mid × Goes mid turns rest new
+      (mid : QueueState) × (rest : List stage.Call) × (given ≡ given_in turn old.in_hand ++ rest) × Moves old turn mid × Goes mid turns rest new

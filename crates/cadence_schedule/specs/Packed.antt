@@ -8,15 +8,17 @@ use Rattle.cadence_schedule.specs.Packets.{ArePacketsOf}
 use Rattle.cadence_schedule.specs.Plan.{groups_of, IsTight, IsFewest, NoGroupHasRoom}
 use Rattle.cadence_schedule.specs.Replies.{MayFail}
 use Rattle.cadence_schedule.specs.Report.{Outcome}
-use Rattle.cadence_schedule.specs.Sendings.{Sending, errors_of, counts_of_kept, marks_from, refusals_from, texts_in}
+use Rattle.cadence_stage.specs.Call.{Call}
+use Rattle.cadence_stage.specs.Past.{taken_in}
+use Rattle.cadence_schedule.specs.Calls.{errors_of, marks_from, refusals_from, texts_in}
 
 -- the lines that a packer kept of what it was given
-abbrev pub lines_in : List Sending → List (List ℕ)
-lines_in all = texts_in (counts_of_kept all)
+abbrev pub lines_in : List Call → List (List ℕ)
+lines_in all = texts_in (taken_in all)
 
 module _ {W A : Type 0} (history : W → PacketHistory) (given : Given A) (outcome : Outcome W A) where
   -- What the headline says of kept lines holds of the lines that the packer was given and kept.
-  pub record ArePacked (all : List Sending) : Type 0 where
+  pub record ArePacked (all : List Call) : Type 0 where
     pub stream : ReportsWhole given.kind → concat (packets_of_run history given outcome) ++ outcome.held ≡ stream given.format (lines_in all)
     pub cut : ReportsWhole given.kind
         → ArePacketsOf given.format (marks_from 0 all) (refusals_from 0 all) (lines_in all) outcome.cut
@@ -37,7 +39,7 @@ module _ {W A : Type 0} (history : W → PacketHistory) (given : Given A) (outco
         → (history outcome.writer).refusals % 2 ^ 64 ≡ (given.before.refusals + length (errors_of all)) % 2 ^ 64
     -- of an oversize line, its first bytes that were counted, also over a writer with short counts
     pub taken : given.kind.reports ≡ true
-        → concat (packets_of_run history given outcome) ++ outcome.held ≡ taken_stream given.format (counts_of_kept all)
+        → concat (packets_of_run history given outcome) ++ outcome.held ≡ taken_stream given.format (taken_in all)
     pub earlier : given.kind.reports ≡ true → Extends given.before (history outcome.writer)
     pub stats : given.kind.reports ≡ true → AreSumsBetween given.before (history outcome.writer) outcome.stats
     pub within : length outcome.held ≤ given.format.capacity

@@ -7,7 +7,12 @@ use Rattle.cadence_settings.specs.declared.call.Call.{Call}
 use Rattle.cadence_schedule.specs.declared.running.Running.{Running}
 use Rattle.cadence_schedule.specs.RunHistory.{Turn}
 use Rattle.cadence_schedule.specs.Moves.{QueueState, Moves, Goes, at_start, given_in}
-use Rattle.cadence_schedule.specs.Sendings.{Sending, AllLead}
+use Rattle.cadence_stage.specs.Call as stage
+use Rattle.cadence_aggregate.specs.Led.{AllLead}
+
+-- These calls of a stage, in order, lead from the old state to the new one, if this is what one call does.
+abbrev pub AllCalled : {S : Type 0} → (S → S → stage.Call → Type 0) → S → List stage.Call → S → Type 0
+AllCalled step old calls new = AllLead (λ s call t. step s t call) old calls new
 
 module _ {S A : Type 0} where
   -- the line in hand
@@ -26,7 +31,7 @@ module _ {S A : Type 0} where
   }
 
   -- what this turn gives to what takes the lines that are handed on
-  abbrev pub given_by : Running S A → Turn A → List Sending
+  abbrev pub given_by : Running S A → Turn A → List stage.Call
   given_by run turn = given_in turn (hand_of run)
 
   -- What a step with its reply does to the queue and the hand. The queue keeps its capacity and its policy.
@@ -35,12 +40,12 @@ module _ {S A : Type 0} where
     pub same_queue : new.queue.capacity ≡ old.queue.capacity
     pub same_policy : new.queue.policy ≡ old.queue.policy
 
-  -- These turns, from a new queue and an empty hand on, led to this run, and what they gave led the recipient to its last
-  -- state, if this is what one sending does.
-  pub record Runs (leads : S → Sending → S → Type 0) (line_of : Call A → Option (List ℕ)) (queue : Option ℕ) (policy : QueuePolicy) (first : S)
+  -- These turns, from a new queue and an empty hand on, led to this run, and what they gave led the stage to its last
+  -- state, if this is what one call does.
+  pub record Runs (step : S → S → stage.Call → Type 0) (line_of : Call A → Option (List ℕ)) (queue : Option ℕ) (policy : QueuePolicy) (first : S)
       (run : Running S A) (turns : List (Turn A)) : Type 0 where
-    pub given : List Sending
+    pub given : List stage.Call
     pub goes : Goes line_of queue policy at_start turns given (queue_state run)
-    pub led : AllLead leads first given run.recipient
+    pub led : AllCalled step first given run.stage
     pub same_queue : run.queue.capacity ≡ queue
     pub same_policy : run.queue.policy ≡ policy

@@ -7,19 +7,21 @@ use Rattle.cadence_aggregating.specs.Says.{LineSays}
 use Rattle.cadence_flow.specs.Writer.{PacketHistory, WriterKind}
 use Rattle.cadence_schedule.specs.Asked.{AsksCall}
 use Rattle.cadence_schedule.specs.Leads.{SinkPacks, sent_by}
-use Rattle.cadence_schedule.specs.Sendings.{Sending, counts_of_kept, texts_in}
+use Rattle.cadence_stage.specs.Call.{Call}
+use Rattle.cadence_stage.specs.Past.{taken_in}
+use Rattle.cadence_schedule.specs.Calls.{texts_in}
 use Rattle.cadence_schedule.specs.declared.packed_sums.PackedSums.{PackedSums}
 
 -- The call leads the sums and the packer behind them from the old state to the new one.
-pub record SumsCall {P A : Type 0} (kind : P → WriterKind) (history : P → PacketHistory) (old : PackedSums P A) (call : Sending) (new : PackedSums P A) : Type 0 where
+pub record SumsCall {P A : Type 0} (kind : P → WriterKind) (history : P → PacketHistory) (old : PackedSums P A) (call : Call) (new : PackedSums P A) : Type 0 where
   -- A line that was taken was taken whole.
-  pub whole : AllByRecursion (λ k. k.1 ≡ length k.0) (counts_of_kept (call ∷ []))
+  pub whole : AllByRecursion (λ k. k.1 ≡ length k.0) (taken_in (call ∷ []))
   -- what the packer was asked
-  pub asked : List Sending
+  pub asked : List Call
   pub asks : AsksCall call asked
   pub packs : SinkPacks kind history old.sink new.sink asked
   -- what the accepted line says, if there is one
   pub said : List Sample
-  pub says : AllZip LineSays (texts_in (counts_of_kept (call ∷ []))) said
+  pub says : AllZip LineSays (texts_in (taken_in (call ∷ []))) said
   -- What was sent and what is held are a summary of what they were before, with what was said.
   pub summary : IsSummary ((sent_by old.sink ++ held old.lines.aggregator) ++ said) (sent_by new.sink ++ held new.lines.aggregator)

@@ -3,7 +3,7 @@ ghost use Rattle.std.specs.Prelude.{◌≡◌, ◌<◌, ◌≤◌, ◌^◌, IfEr
 ghost use Rattle.cadence_schedule.specs.Aggregated.{HasAggregated, held_in_report, outcome_shown};
 ghost use Rattle.cadence_schedule.specs.Headline.{given_of};
 ghost use Rattle.cadence_schedule.specs.RunOutcome.{outcome_after};
-ghost use Rattle.cadence_schedule.specs.Sendings.{Sending};
+ghost use Rattle.cadence_stage.specs.Call.{Call};
 
 use super::aggregated_report::AggregatedReport;
 use super::laws::tight_is_fewest;
@@ -25,20 +25,20 @@ fn report_of<W: PacketWriter, A: Allocator>(
     replies: Vec<Reply, A>,
 ) -> AggregatedReport<W, A>
     ensures outcome { outcome_shown result
-        ≡ outcome_after running running.recipient.sink.packing replies }
-    ensures aggregator { result.aggregator ≡ running.recipient.lines.aggregator }
+        ≡ outcome_after running running.stage.sink.packing replies }
+    ensures aggregator { result.aggregator ≡ running.stage.lines.aggregator }
     ensures held { length (outcome_shown result).held
-        ≤ running.recipient.sink.packing.packer.format.capacity }
+        ≤ running.stage.sink.packing.packer.format.capacity }
     ensures bytes_sent { (outcome_shown result).stats.bytes_sent < 2 ^ 64 }
     ensures packets_sent { (outcome_shown result).stats.packets_sent < 2 ^ 64 }
 {
     let Running {
         queue,
         in_hand,
-        recipient,
+        stage,
     } = running;
-    let (aggregator, packing) = recipient.into_parts();
-    let Packing { packer, cut } = packing;
+    let (aggregator, packing) = stage.into_parts();
+    let Packing { packer, cut, .. } = packing;
     let (counting, held) = packer.into_parts();
     let (writer, stats) = counting.into_parts();
     AggregatedReport {
@@ -82,7 +82,7 @@ pub fn run_schedule_aggregated<W: PacketWriter, A: Allocator + Clone>(
 ) -> Result<AggregatedReport<W, A>, W>
     ensures headline { let given =
         given_of W.kind W.history settings.now capacity ending.now queue policy steps.now writer in
-        IfOk result (λ report. (all : List Sending)
+        IfOk result (λ report. (all : List Call)
         × HasAggregated W.history given (outcome_shown report) (held_in_report report) all) }
     ensures returned { IfErr result (λ back. back ≡ writer) }
 {

@@ -1,7 +1,8 @@
 //! What a run returns.
-use crate::listed::ListedLines;
 use crate::steps::Reply;
 use cadence_aggregate::Aggregator;
+use cadence_aggregating::WaitingLines;
+use cadence_errors::SinkError;
 use cadence_flow::stats::SinkStats;
 use cadence_queue::QueueCore;
 use std::alloc::{AllocError, Allocator, Global};
@@ -42,10 +43,11 @@ impl<W, A: Allocator> AggregatedReport<W, A> {
         ensures { IfOk result (λ lines.
             map string_bytes lines.items ≡ map line_saying (held_in_report self.old)) }
     {
-        let mut listed = ListedLines::new(alloc);
-        match self.aggregator.flush(&mut listed) {
-            Ok(()) => Ok(listed.into_lines()),
-            Err(_) => Err(AllocError),
+        let mut waiting = WaitingLines::new(alloc);
+        let mut fault = SinkError::NothingWritten;
+        match self.aggregator.flush(&mut waiting, &mut fault) {
+            Some(()) => waiting.into_texts(),
+            None => Err(AllocError),
         }
     }
 }

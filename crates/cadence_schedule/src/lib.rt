@@ -6,11 +6,9 @@
 //! - `aggregated`: the run with an aggregator between the worker's hand and the packer
 //! - `make_steps`: how the steps are made, one after the other
 //! - `running`: the state of a run between two steps, and what each step does to it
-//! - `recipient`: what takes the lines that the worker hands on: a packer, or sums before it
 //! - `packing`: the packer, with the numbers of lines in its packets
 //! - `packer_sink`: the packer, as the sink to which the aggregator sends lines
 //! - `packed_sums`: lines that are added up before the packer
-//! - `listed`: a list, as the sink to which the aggregator sends lines
 //! - `reports` and `aggregated_report`: what the runs return
 //! - `plan`: plans that say how many lines each packet has
 //! - `laws`: laws that follow from the definitions
@@ -19,13 +17,11 @@
 mod aggregated;
 mod aggregated_report;
 mod laws;
-mod listed;
 mod make_steps;
 mod packed_sums;
 mod packer_sink;
 mod packing;
 mod plan;
-mod recipient;
 mod reports;
 mod run;
 mod running;

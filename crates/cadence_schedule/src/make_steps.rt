@@ -7,12 +7,12 @@ ghost use Rattle.cadence_settings.specs.CallData.{line_of_data, metric_of_data};
 ghost use Rattle.cadence_schedule.specs.RunHistory.{accepted};
 ghost use Rattle.cadence_schedule.specs.Running.{Runs};
 
-use super::recipient::Recipient;
 use super::running::Running;
 use super::steps::{Reply, Step};
 use cadence_errors::MetricResult;
 use cadence_queue::{QueueCore, QueuePolicy};
 use cadence_settings::ClientSettings;
+use cadence_stage::Stage;
 use std::alloc::Allocator;
 
 // Returns a list with room for the replies to this many steps, and a queue. The only error is that memory ran out.
@@ -33,18 +33,17 @@ pub(crate) fn lists_of_run<A: Allocator + Clone>(
 }
 
 // Makes the steps in their order, from a new queue and an empty hand on, and returns the last state and the replies.
-pub(crate) fn make_steps<S: Recipient, A: Allocator + Clone>(
+pub(crate) fn make_steps<S: Stage, A: Allocator + Clone>(
     settings: &ClientSettings<A>,
     steps: &[Step<A>],
     queue: QueueCore<String<A>, A>,
-    recipient: S,
+    stage: S,
     replies: Vec<Reply, A>,
 ) -> (Running<S, A>, Vec<Reply, A>)
     requires queue { queue ≡ new_queue queue.capacity queue.policy }
-    requires room { length steps.now ≤ S.room recipient }
     requires replies { (replies.items ≡ []) × (length steps.now ≤ vec_capacity replies) }
-    ensures runs { Runs S.leads (line_of_data settings.now) queue.capacity queue.policy
-        recipient result.0 (zip steps.now result.1.items) }
+    ensures runs { Runs S.step (line_of_data settings.now) queue.capacity queue.policy
+        stage result.0 (zip steps.now result.1.items) }
     ensures representable { All IsRepresentable (accepted (metric_of_data settings.now)
         (zip steps.now result.1.items)) }
     ensures one_each { length result.1.items ≡ length steps.now }
@@ -52,7 +51,7 @@ pub(crate) fn make_steps<S: Recipient, A: Allocator + Clone>(
     let mut running = Running {
         queue,
         in_hand: None,
-        recipient,
+        stage,
     };
     let mut replies = replies;
     for step in steps {

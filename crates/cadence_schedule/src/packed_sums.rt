@@ -3,11 +3,11 @@ ghost use Rattle.std.specs.Prelude.{◌≡◌, []};
 
 use crate::packer_sink::PackerSink;
 use crate::packing::Packing;
-use crate::recipient::Recipient;
 use cadence_aggregate::Aggregator;
 use cadence_aggregating::Sums;
 use cadence_errors::SinkError;
 use cadence_flow::io::PacketWriter;
+use cadence_stage::Stage;
 use std::alloc::{Allocator, Global};
 
 // Sums of lines over the packer of a run.
@@ -40,32 +40,24 @@ impl<P: PacketWriter, A: Allocator> PackedSums<P, A> {
     }
 }
 
-impl<P: PacketWriter, A: Allocator> Recipient for PackedSums<P, A> {
-    ghost use Rattle.std.specs.Prelude.{◌^◌};
+// A line that is added is taken whole. After an error it is not added, and each line that was held before is sent or
+// still held. A flush sends what is held to the packer, and then what the packer holds.
+impl<P: PacketWriter, A: Allocator> Stage for PackedSums<P, A> {
+    ghost use Rattle.std.specs.Prelude.{length, map};
+    ghost use Rattle.cadence_aggregating.specs.Sums.{accepted_by};
     ghost use Rattle.cadence_schedule.specs.SumsCalls.{SumsCall};
 
-    ghost leads = { λ old sending new. SumsCall P.kind P.history old sending new };
+    ghost step = { λ old new call. SumsCall P.kind P.history old call new };
 
-    // More than the steps of any run, because each line that is counted makes room for itself.
-    ghost room = { λ _. 2 ^ 64 };
+    ghost taken = { λ sums. map (λ line. (line, length line)) (accepted_by sums.lines) };
 
-    // Adds a line and returns its length. After an error the line is not added, and each line that was held before is
-    // sent or still held.
-    fn hand(&mut self, line: &str) -> Result<usize, SinkError> {
-        let _ = self.sink.take_refused();
-        match self.lines.add(&mut self.sink, line) {
-            Ok(()) => Ok(line.len()),
-            Err(fault) => Err(self.sink.error_of(fault)),
-        }
+    fn take_line(&mut self, line: &str, fault: &mut SinkError) -> Option<usize> {
+        self.lines.add(&mut self.sink, line, fault)?;
+        Some(line.len())
     }
 
-    // Sends what is held to the packer, and then what the packer holds. After an error what was not sent is still
-    // held.
-    fn flush(&mut self) -> Result<(), SinkError> {
-        let _ = self.sink.take_refused();
-        match self.lines.flush(&mut self.sink) {
-            Ok(()) => self.sink.packing.flush(),
-            Err(fault) => Err(self.sink.error_of(fault)),
-        }
+    fn empty(&mut self, fault: &mut SinkError) -> Option<()> {
+        self.lines.flush(&mut self.sink, fault)?;
+        self.sink.packing.empty(fault)
     }
 }

@@ -1,18 +1,21 @@
 //! The packer of a run, with the numbers of lines in its packets.
-ghost use Rattle.std.specs.Prelude.{◌≡◌, ◌+◌, ◌<◌, ◌≤◌, [], IfErr, IfOk, IsTrue, OnErr, vec_len, vec_capacity};
+ghost use Rattle.std.specs.Prelude.{◌≡◌, ◌+◌, ◌<◌, ◌≤◌, [], IfErr, IfOk, IsTrue, vec_len, vec_capacity};
 ghost use Rattle.cadence_flow.specs.Packer.{new_packer};
 ghost use Rattle.cadence_schedule.specs.Cut.{Counted, HasLast};
 
-use crate::recipient::Recipient;
+use cadence_aggregate::out_of_memory;
 use cadence_errors::SinkError;
 use cadence_flow::io::{LineBuffer, PacketWriter};
+use cadence_stage::{GhostTexts, Stage};
 use std::alloc::{AllocError, Allocator};
 
-// A packer over its writer, and its cut: how many lines each packet has, the held text counted as the last packet.
+// A packer over its writer, and its cut: how many lines each packet has, the held text counted as the last packet. `kept`
+// has the lines that the packer took, and exists in proofs only.
 #[derive(Drop)]
 pub(crate) struct Packing<P: PacketWriter, A: Allocator> {
     pub(crate) packer: LineBuffer<P, A>,
     pub(crate) cut: Vec<usize, A>,
+    pub(crate) kept: GhostTexts,
 }
 
 // Counts a line in the last packet of the cut if it joins the held text, and in a new packet otherwise.
@@ -44,8 +47,6 @@ fn cut_and_alloc<A: Allocator + Clone>(
 
 impl<P: PacketWriter, A: Allocator> Packing<P, A> {
     ghost use Rattle.cadence_schedule.specs.Cut.{joins_held};
-    ghost use Rattle.cadence_schedule.specs.PackedRuns.{Packs, view_of};
-    ghost use Rattle.cadence_schedule.specs.Sendings.{wrote};
 
     // Returns whether the packer holds text that has room for this line and its ending.
     fn joins_held(&self, line: &str) -> bool
@@ -53,20 +54,11 @@ impl<P: PacketWriter, A: Allocator> Packing<P, A> {
     {
         !self.packer.held().is_empty() && self.packer.fits(line.as_bytes())
     }
-
-    // Writes a line, and counts it if it was kept. The only error is that there is no memory to count it, and then
-    // nothing was written.
-    pub(crate) fn write(&mut self, line: &str) -> Result<Result<usize, SinkError>, AllocError>
-        ensures packs { IfOk result (λ answer. Packs P.kind P.history
-            (view_of self.old) (wrote line.now answer) (view_of self.new)) }
-        ensures unchanged { OnErr result (view_of self.new ≡ view_of self.old) }
-    {
-        self.cut.reserve(1)?;
-        Ok(self.hand(line))
-    }
 }
 
 impl<P: PacketWriter, A: Allocator + Clone> Packing<P, A> {
+    ghost use Rattle.cadence_schedule.specs.PackedRuns.{room_of};
+
     // Returns a packer that holds nothing, with room to count this many lines, or the writer if memory runs out.
     pub(crate) fn new(
         alloc: &A,
@@ -77,40 +69,41 @@ impl<P: PacketWriter, A: Allocator + Clone> Packing<P, A> {
     ) -> Result<Packing<P, A>, P>
         ensures packer { IfOk result (λ made. made.packer ≡ new_packer writer capacity ending.now) }
         ensures cut { IfOk result (λ made. made.cut.items ≡ []) }
-        ensures room { IfOk result (λ made. lines ≤ vec_capacity made.cut) }
+        ensures room { IfOk result (λ made. lines ≤ room_of made) }
         ensures returned { IfErr result (λ back. back ≡ writer) }
     {
         let Ok((cut, second)) = cut_and_alloc(alloc, lines) else {
             return Err(writer);
         };
         let packer = LineBuffer::with_ending(second, writer, capacity, ending)?;
-        Ok(Packing { packer, cut })
+        Ok(Packing {
+            packer,
+            cut,
+            kept: GhostTexts::new(),
+        })
     }
 }
 
-impl<P: PacketWriter, A: Allocator> Recipient for Packing<P, A> {
-    ghost use Rattle.std.specs.Prelude.{◌-◌, vec_len, vec_capacity};
-    ghost use Rattle.cadence_schedule.specs.PackedRuns.{Packs, view_of};
+// A line is counted if it was kept. It is refused if there is no room to count it, and no memory for more room.
+impl<P: PacketWriter, A: Allocator> Stage for Packing<P, A> {
+    ghost use Rattle.cadence_schedule.specs.PackedRuns.{PacksCounted};
 
-    ghost leads = { λ old sending new. Packs P.kind P.history (view_of old) sending (view_of new) };
+    ghost step = { λ old new call. PacksCounted P.kind P.history old call new };
 
-    ghost room = { λ packing. vec_capacity packing.cut - vec_len packing.cut };
+    ghost taken = { λ packing. packing.kept.items };
 
-    // Writes a line, and counts it if it was kept.
-    fn hand(&mut self, line: &str) -> Result<usize, SinkError> {
+    fn take_line(&mut self, line: &str, fault: &mut SinkError) -> Option<usize> {
+        let Ok(()) = self.cut.reserve(1) else {
+            return out_of_memory(fault);
+        };
         let joins = self.joins_held(line);
-        let mut fault = SinkError::NothingWritten;
-        match self.packer.write(line.as_bytes(), &mut fault) {
-            Some(count) => {
-                count_line(&mut self.cut, joins);
-                Ok(count)
-            }
-            None => Err(fault),
-        }
+        let count = self.packer.write(line.as_bytes(), fault)?;
+        count_line(&mut self.cut, joins);
+        self.kept.note(line.as_bytes(), count);
+        Some(count)
     }
 
-    fn flush(&mut self) -> Result<(), SinkError> {
-        let mut fault = SinkError::NothingWritten;
-        self.packer.flush(&mut fault).ok_or(fault)
+    fn empty(&mut self, fault: &mut SinkError) -> Option<()> {
+        self.packer.flush(fault)
     }
 }

@@ -87,17 +87,17 @@ impl<W: PacketWriter, A: Allocator> Report<W, A> {
         running: Running<Packing<CountingWriter<W>, A>, A>,
         replies: Vec<Reply, A>,
     ) -> Report<W, A>
-        ensures outcome { outcome_of result ≡ outcome_after running running.recipient replies }
-        ensures held { length (outcome_of result).held ≤ running.recipient.packer.format.capacity }
+        ensures outcome { outcome_of result ≡ outcome_after running running.stage replies }
+        ensures held { length (outcome_of result).held ≤ running.stage.packer.format.capacity }
         ensures bytes_sent { (outcome_of result).stats.bytes_sent < 2 ^ 64 }
         ensures packets_sent { (outcome_of result).stats.packets_sent < 2 ^ 64 }
     {
         let Running {
             queue,
             in_hand,
-            recipient,
+            stage,
         } = running;
-        let Packing { packer, cut } = recipient;
+        let Packing { packer, cut, .. } = stage;
         let (counting, held) = packer.into_parts();
         let (writer, stats) = counting.into_parts();
         Report {

@@ -13,7 +13,7 @@ use super::reports::Report;
 use super::steps::Step;
 use cadence_flow::io::{CountingWriter, PacketWriter};
 use cadence_queue::QueuePolicy;
-use cadence_settings::{ClientSettings, strict_calls_are_clear};
+use cadence_settings::{ClientSettings, cleaned_calls_are_clear, strict_calls_are_clear};
 use cadence_text::laws::no_line_is_empty;
 use std::alloc::Allocator;
 
@@ -50,8 +50,8 @@ use std::alloc::Allocator;
 /// 5. If the writer refused no packet, no way to pack the same lines that ends a packet at each flush has fewer
 ///    packets.
 ///
-/// If the settings are strict and each line ends in a newline, the packets can be read as the metrics of the kept lines,
-/// and as no other clear metrics, whatever texts the calls have. A metric is clear if no text of it has a separator,
+/// If the settings are strict or clean texts, and each line ends in a newline, the packets can be read as the metrics of
+/// the kept lines, and as no other clear metrics, whatever texts the calls have. A metric is clear if no text of it has a separator,
 /// except colons after the keys of tags.
 ///
 /// Number 3 holds for every writer, number 4 for one that takes each packet whole or refuses it, and the others for one
@@ -81,7 +81,9 @@ pub fn run_schedule_with<W: PacketWriter, A: Allocator + Clone>(
     tight_is_fewest();
     packets_read_one_way();
     strict_calls_are_clear();
+    cleaned_calls_are_clear();
     let _ = settings.is_strict();
+    let _ = settings.is_cleaned();
     let Ok((replies, queue)) = lists_of_run(&alloc, steps.len(), queue, policy) else {
         return Err(writer);
     };

@@ -1,33 +1,32 @@
 //! The state of a run between two steps, and what each step does to it.
-use super::recipient::Recipient;
 use super::steps::{Reply, Step};
-use cadence_errors::MetricError;
+use cadence_errors::{MetricError, SinkError};
 use cadence_queue::{QueueCore, Taken};
 use cadence_settings::{Call, ClientSettings};
+use cadence_stage::Stage;
 use std::alloc::{Allocator, Global};
 
-// The queue, the line in the worker's hand, and what the worker hands lines to.
+// The queue, the line in the worker's hand, and the stage to which the worker hands lines.
 #[derive(Drop)]
 pub(crate) struct Running<S, A: Allocator = Global> {
     pub(crate) queue: QueueCore<String<A>, A>,
     pub(crate) in_hand: Option<String<A>>,
-    pub(crate) recipient: S,
+    pub(crate) stage: S,
 }
 
-impl<S: Recipient, A: Allocator + Clone> Running<S, A> {
-    ghost use Rattle.std.specs.Prelude.{◌≡◌, ◌+◌, ◌<◌, ◌≤◌, All};
+impl<S: Stage, A: Allocator + Clone> Running<S, A> {
+    ghost use Rattle.std.specs.Prelude.{◌≡◌, All};
     ghost use Rattle.cadence_text.specs.Representable.{IsRepresentable};
     ghost use Rattle.cadence_settings.specs.CallData.{line_of_data, metric_of_data};
     ghost use Rattle.cadence_schedule.specs.RunHistory.{accepted_by_turn};
-    ghost use Rattle.cadence_schedule.specs.Running.{MovesQueue, given_by};
-    ghost use Rattle.cadence_schedule.specs.Sendings.{AllLead};
+    ghost use Rattle.cadence_schedule.specs.Running.{AllCalled, MovesQueue, given_by};
     ghost use Rattle.cadence_schedule.specs.declared.steps.Step.TheVariants as step;
 
     // Formats the line of a call and puts it into the queue.
     fn call(&mut self, settings: &ClientSettings<A>, call: &Call<A>) -> Reply
         ensures queue { MovesQueue (line_of_data settings.now)
             self.old (step.Call call.now, result) self.new }
-        ensures same { self.new.recipient ≡ self.old.recipient }
+        ensures same { self.new.stage ≡ self.old.stage }
         ensures representable { All IsRepresentable (accepted_by_turn (metric_of_data settings.now)
             (step.Call call.now, result)) }
     {
@@ -46,7 +45,7 @@ impl<S: Recipient, A: Allocator + Clone> Running<S, A> {
     // Takes the oldest line of the queue into the hand, if the hand is empty.
     fn take(&mut self) -> Reply
         ensures queue { (line_of : _) → MovesQueue line_of self.old (step.Take, result) self.new }
-        ensures same { self.new.recipient ≡ self.old.recipient }
+        ensures same { self.new.stage ≡ self.old.stage }
     {
         if self.in_hand.is_some() {
             return Reply::Busy;
@@ -64,32 +63,33 @@ impl<S: Recipient, A: Allocator + Clone> Running<S, A> {
 
     // Hands the line in hand on.
     fn hand(&mut self) -> Reply
-        requires { 0 < S.room self.old.recipient }
         ensures queue { (line_of : _) → MovesQueue line_of self.old (step.Hand, result) self.new }
-        ensures leads { AllLead S.leads self.old.recipient
-            (given_by self.old (step.Hand, result)) self.new.recipient }
-        ensures room { S.room self.old.recipient ≤ S.room self.new.recipient + 1 }
+        ensures leads { AllCalled S.step self.old.stage
+            (given_by self.old (step.Hand, result)) self.new.stage }
     {
         let Some(line) = self.in_hand.take() else {
             return Reply::Nothing;
         };
-        Reply::Handed(self.recipient.hand(line.as_str()))
+        let mut fault = SinkError::NothingWritten;
+        let taken = self.stage.take_line(line.as_str(), &mut fault);
+        Reply::Handed(taken.ok_or(fault))
     }
 
     // Sends what is held.
     fn flush(&mut self) -> Reply
         ensures queue { (line_of : _) → MovesQueue line_of self.old (step.Flush, result) self.new }
-        ensures leads { AllLead S.leads self.old.recipient
-            (given_by self.old (step.Flush, result)) self.new.recipient }
-        ensures room { S.room self.old.recipient ≤ S.room self.new.recipient }
+        ensures leads { AllCalled S.step self.old.stage
+            (given_by self.old (step.Flush, result)) self.new.stage }
     {
-        Reply::Flushed(self.recipient.flush())
+        let mut fault = SinkError::NothingWritten;
+        let done = self.stage.empty(&mut fault);
+        Reply::Flushed(done.ok_or(fault))
     }
 
     // Stops the queue.
     fn stop(&mut self) -> Reply
         ensures queue { (line_of : _) → MovesQueue line_of self.old (step.Stop, result) self.new }
-        ensures same { self.new.recipient ≡ self.old.recipient }
+        ensures same { self.new.stage ≡ self.old.stage }
     {
         self.queue.stop();
         Reply::Stopped
@@ -97,12 +97,10 @@ impl<S: Recipient, A: Allocator + Clone> Running<S, A> {
 
     // Makes one step and returns the reply to it.
     pub(crate) fn step(&mut self, settings: &ClientSettings<A>, step: &Step<A>) -> Reply
-        requires { 0 < S.room self.old.recipient }
         ensures queue { MovesQueue (line_of_data settings.now)
             self.old (step.now, result) self.new }
-        ensures leads { AllLead S.leads self.old.recipient
-            (given_by self.old (step.now, result)) self.new.recipient }
-        ensures room { S.room self.old.recipient ≤ S.room self.new.recipient + 1 }
+        ensures leads { AllCalled S.step self.old.stage
+            (given_by self.old (step.now, result)) self.new.stage }
         ensures representable { All IsRepresentable
             (accepted_by_turn (metric_of_data settings.now) (step.now, result)) }
     {

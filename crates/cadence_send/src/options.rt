@@ -8,11 +8,10 @@ use cadence_errors::{InputError, MetricError};
 use cadence_flow::io::DEFAULT_CAPACITY;
 use cadence_settings::ClientSettings;
 use cadence_text::line::{OwnedTag, Tag, lend_tag};
+use cadence_value::chance::Chance;
 use cadence_value::decimal::Decimal;
 use cadence_value::spelled::read_spelled;
-use cadence_words::{
-    Chance, Defaults, Fields, Subject, is_word, read_alert, read_priority, read_tag,
-};
+use cadence_words::{Defaults, Fields, Subject, is_word, read_alert, read_priority, read_tag};
 use std::alloc::Allocator;
 
 /// The place to which packets are sent.
@@ -52,6 +51,9 @@ pub struct Options<'a, A: Allocator> {
     /// Whether the settings are strict, so that they refuse each text that has a separator, other than a colon after the
     /// key of a tag.
     pub is_strict: bool,
+    /// Whether the settings clean texts: then an underscore replaces each separator in a name, a tag, the prefix and the
+    /// container. This has to be set before the prefix, a tag and the container are. The settings are not strict then.
+    pub is_cleaning: bool,
     /// Whether packets are printed instead of sent.
     pub is_printing: bool,
     /// The most milliseconds that packets wait for room at a Unix socket.
@@ -77,6 +79,33 @@ fn read_positive(value: &str) -> Option<Decimal> {
 // Reads a name, or an id.
 fn read_word(value: &str) -> Option<&str> {
     if is_word(value) { Some(value) } else { None }
+}
+
+// Reads a name or an id. One with a separator is refused if it is not cleaned later.
+fn read_word_for(value: &str, is_cleaned: bool) -> Option<&str> {
+    if is_cleaned && !value.is_empty() {
+        return Some(value);
+    }
+    read_word(value)
+}
+
+// Returns the tag that a text is. The first colon ends its key.
+fn split_tag(text: &str) -> Tag<'_> {
+    match text.split_once(':') {
+        Some((key, text)) => Tag {
+            key: Some(key),
+            text,
+        },
+        None => Tag { key: None, text },
+    }
+}
+
+// Reads a tag. One with a comma, a bar or a newline is refused if it is not cleaned later.
+fn read_tag_for(value: &str, is_cleaned: bool) -> Option<Tag<'_>> {
+    if is_cleaned && !value.is_empty() {
+        return Some(split_tag(value));
+    }
+    read_tag(value)
 }
 
 // Reads the message of a service check. An empty one is left out.
@@ -158,6 +187,7 @@ impl<'a, A: Allocator> Options<'a, A> {
             flush_every: None,
             is_adding_up: false,
             is_strict: false,
+            is_cleaning: false,
             is_printing: false,
             wait: None,
             is_dropping: false,
@@ -176,14 +206,19 @@ impl<'a, A: Allocator> Options<'a, A> {
         ensures { SaysWhere self.old → OnOk result (SaysWhere self.new) }
     {
         let refused = InputError::Unusable(OptionError { setting, value });
+        let is_cleaned = self.is_cleaning;
         match setting {
             Setting::To => match read_destination(value) {
                 Some(place) => self.to = Some(place),
                 None => return Err(refused),
             },
-            Setting::Prefix => self.prefix = read_word(value).ok_or(refused)?,
-            Setting::Tag => self.tags.push(read_tag(value).ok_or(refused)?)?,
-            Setting::Container => self.container = Some(read_word(value).ok_or(refused)?),
+            Setting::Prefix => self.prefix = read_word_for(value, is_cleaned).ok_or(refused)?,
+            Setting::Tag => self
+                .tags
+                .push(read_tag_for(value, is_cleaned).ok_or(refused)?)?,
+            Setting::Container => self.container = Some(read_word_for(value, is_cleaned).ok_or(
+                refused,
+            )?),
             Setting::Time => self.time = Some(read_whole(value).ok_or(refused)?),
             Setting::Rate => self.rate = Some(read_positive(value).ok_or(refused)?),
             Setting::Sample => {
@@ -235,7 +270,9 @@ impl<'a, A: Allocator + Clone> Options<'a, A> {
     /// `SinkError::OutOfMemory`.
     pub fn defaults(&self, alloc: A, tags: &[OwnedTag<A>]) -> Result<Defaults<A>, MetricError> {
         let mut settings = ClientSettings::new(alloc, self.prefix)?;
-        if self.is_strict {
+        if self.is_cleaning {
+            settings.set_cleaned()?;
+        } else if self.is_strict {
             settings.set_strict()?;
         }
         for tag in tags {

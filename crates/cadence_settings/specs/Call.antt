@@ -1,5 +1,5 @@
 -- Calls, their options, and the metric that a call makes with the settings of a client.
-use Rattle.std.specs.Prelude.{◌≡◌, ℕ, Option, None, Some, List, [], ◌∷◌, ◌++◌, Result}
+use Rattle.std.specs.Prelude.{◌≡◌, ℕ, Option, None, Some, List, [], ◌∷◌, ◌++◌, Result, map}
 use Rattle.std.specs.Option.{option_or}
 use Rattle.std.specs.Prelude.{Bool, true, not, ◌&&◌, ◌||◌}
 use Rattle.std.specs.List.{filter_map, fold, list_all}
@@ -7,6 +7,7 @@ use Rattle.cadence_text.specs.declared.line.MetricType.{MetricType}
 use Rattle.cadence_errors.specs.declared.MetricError.{MetricError}
 use Rattle.cadence_errors.specs.Errors.{Gives}
 use Rattle.cadence_text.specs.Draft.{Draft, draft_of}
+use Rattle.cadence_text.specs.Cleaned.{tag_as, text_as}
 use Rattle.cadence_text.specs.Metric.{Metric, Tag}
 use Rattle.cadence_text.specs.Representable.{IsRepresentable}
 use Rattle.cadence_value.specs.Number.{Number}
@@ -106,6 +107,21 @@ chosen m (tagged t) = record m { tags = m.tags ++ t ∷ [] }
 chosen m (contained c) = record m { container = Some c }
 chosen m (timed n) = record m { time = Some n }
 chosen m (rated r) = record m { rate = Some r }
+
+-- the option as it is, or with a cleaned text (`true`)
+abbrev pub choice_as : Bool → Choice → Choice
+choice_as is_cleaned (tagged t) = tagged (tag_as is_cleaned t)
+choice_as is_cleaned (contained c) = contained (text_as is_cleaned c)
+choice_as is_cleaned (timed n) = timed n
+choice_as is_cleaned (rated r) = rated r
+
+-- the call as the settings send it: as it is, or with cleaned texts if they clean texts
+abbrev pub call_for : Settings → MetricCall → MetricCall
+call_for s c = record c { key = text_as s.cleaned c.key; choices = map (choice_as s.cleaned) c.choices }
+
+-- the metric that the settings make of a call
+abbrev pub metric_for : Settings → MetricCall → Metric
+metric_for s c = metric_of_call s (call_for s c)
 
 -- The draft is that of the metric, whose texts are in UTF-8, and whose numbers a `Decimal` can have.
 abbrev pub IsDraftOf : Metric → Draft → Type 0

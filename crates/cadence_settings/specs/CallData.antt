@@ -1,5 +1,5 @@
 -- Calls that are kept as data: the kind of the metric, the numbers of the value, the metric and its line.
-use Rattle.std.specs.Prelude.{◌≡◌, None, ℕ, if◌then◌else◌, Option, Some, List, [], ◌∷◌, map, string_bytes}
+use Rattle.std.specs.Prelude.{◌≡◌, Bool, None, ℕ, if◌then◌else◌, Option, Some, List, [], ◌∷◌, map, string_bytes}
 use Rattle.std.specs.Option.{option_map}
 use Rattle.cadence_text.specs.declared.line.MetricType.{MetricType}
 use Rattle.cadence_text.specs.declared.line.MetricType.TheVariants.{Counter, Timer, Gauge, Meter, Histogram, Set, Distribution}
@@ -19,7 +19,7 @@ use Rattle.cadence_settings.specs.declared.call.CallValue.TheVariants.{Histogram
 use Rattle.cadence_settings.specs.declared.call.CallValue.TheVariants.{HistogramVecDecimal, HistogramVecDuration, DistributionU64}
 use Rattle.cadence_settings.specs.declared.call.CallValue.TheVariants.{DistributionDecimal, DistributionVecU64, DistributionVecDecimal}
 use Rattle.cadence_settings.specs.declared.call.CallValue.TheVariants.{SetI64}
-use Rattle.cadence_settings.specs.Call.{Choice, tagged, contained, timed, rated, MetricCall, metric_of_call, allows_call}
+use Rattle.cadence_settings.specs.Call.{Choice, choice_as, tagged, contained, timed, rated, MetricCall, metric_for, metric_of_call, allows_call}
 use Rattle.cadence_settings.specs.Settings.{Settings}
 
 -- the kind of metric that a value is for
@@ -81,6 +81,10 @@ choice_of (Container text) = contained (string_bytes text)
 choice_of (Time n) = timed n
 choice_of (Rate r) = rated r
 
+-- what an option of a call chooses in its line, which is cleaned if the flag is true
+abbrev pub sent_choice : {Z : Type 0} → Bool → CallOption Z → Choice
+sent_choice is_cleaned option = choice_as is_cleaned (choice_of option)
+
 -- the call with these numbers in place of its value
 abbrev pub call_of : {Z : Type 0} → Call Z → List Number → MetricCall
 call_of c numbers = record { kind = kind_of_value c.value; key = string_bytes c.key; numbers = numbers; choices = map choice_of c.options.items }
@@ -91,7 +95,11 @@ numbers_of_data s c = if allows_call s (call_of c []) then numbers_of_value c.va
 
 -- the metric of a call, or none if a duration of it passes 64 bits or the settings don't allow the call
 abbrev pub metric_of_data : {Z : Type 0} → Settings → Call Z → Option Metric
-metric_of_data s c = option_map (λ ns. metric_of_call s (call_of c ns)) (numbers_of_data s c)
+metric_of_data s c = option_map (λ ns. metric_for s (call_of c ns)) (numbers_of_data s c)
+
+-- the metric of a call whose texts are not cleaned, or none as above
+abbrev pub record_metric : {Z : Type 0} → Settings → Call Z → Option Metric
+record_metric s c = option_map (λ ns. metric_of_call s (call_of c ns)) (numbers_of_data s c)
 
 -- the line of a call, or none if a duration of it passes 64 bits or the settings don't allow the call
 abbrev pub line_of_data : {Z : Type 0} → Settings → Call Z → Option (List ℕ)

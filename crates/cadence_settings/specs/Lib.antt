@@ -1,6 +1,7 @@
 pub mod Call
 pub mod CallData
 pub mod DraftErrors
+pub mod KeptTexts
 pub mod Laws
 pub mod Settings
 pub mod SettingsParts

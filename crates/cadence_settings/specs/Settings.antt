@@ -1,19 +1,22 @@
 -- The settings of a client: what it adds to each call.
-use Rattle.std.specs.Prelude.{◌≡◌, ℕ, ◌==◌, if◌then◌else◌, Option, None, Some, List, [], ◌∷◌, ◌++◌, codes}
+use Rattle.std.specs.Prelude.{◌≡◌, ℕ, ◌==◌, if◌then◌else◌, Option, None, Some, List, [], ◌∷◌, ◌++◌, codes, map}
 use Rattle.std.specs.Prelude.{Bool, true, false, not, ◌&&◌, ◌||◌}
 use Rattle.std.specs.List.{list_all}
 use Rattle.cadence_errors.specs.Errors.{IsInvalid, out_of_memory}
 use Rattle.cadence_errors.specs.declared.MetricError.{MetricError}
 use Rattle.cadence_text.specs.Metric.{Tag}
+use Rattle.cadence_text.specs.Cleaned.{cleaned_tag, cleaned_text, container_as, tag_as, text_as}
 use Rattle.cadence_text.specs.FreeTexts.{is_free_text, is_free_if_any, is_clear_tag}
 
--- the prefix as each line begins with it, the default tags in their order, the default container, and whether the
--- settings are strict: strict settings refuse each text that has a separator
+-- the prefix as each line begins with it, the default tags in their order, the default container, whether the settings
+-- are strict, and whether they clean texts: strict settings refuse each text that has a separator, and settings that clean
+-- texts put an underscore in its place
 pub record Settings : Type 0 where
   pub prefix : List ℕ
   pub tags : List Tag
   pub container : Option (List ℕ)
   pub strict : Bool
+  pub cleaned : Bool
 
 -- the byte `c` put before a text without trailing dots, unless the text is empty and the byte is a dot (46)
 abbrev pub before_kept : ℕ → List ℕ → List ℕ
@@ -31,26 +34,40 @@ abbrev pub client_prefix : List ℕ → List ℕ
 client_prefix [] = []
 client_prefix (c ∷ cs) = without_dots (c ∷ cs) ++ codes "."
 
--- settings with this prefix, without defaults and not strict
+-- settings with this prefix, without defaults, which take all texts as they are
 abbrev pub settings_of : List ℕ → Settings
-settings_of prefix = record { prefix = client_prefix prefix; tags = []; container = None; strict = false }
+settings_of prefix = record { prefix = client_prefix prefix; tags = []; container = None; strict = false; cleaned = false }
 
--- the settings with one more default tag, at the end
+-- the settings with one more default tag, at the end, which is cleaned if the settings clean texts
 abbrev pub with_default_tag : Settings → Tag → Settings
-with_default_tag s tag = record s { tags = s.tags ++ tag ∷ [] }
+with_default_tag s tag = record s { tags = s.tags ++ tag_as s.cleaned tag ∷ [] }
 
--- the settings with this default container
+-- the settings with this default container, which is cleaned if the settings clean texts
 abbrev pub with_default_container : Settings → List ℕ → Settings
-with_default_container s container = record s { container = Some container }
+with_default_container s container = record s { container = Some (text_as s.cleaned container) }
 
 -- the settings as strict ones
 abbrev pub with_strict_texts : Settings → Settings
-with_strict_texts s = record s { strict = true }
+with_strict_texts s = record s { strict = true; cleaned = false }
+
+-- the settings as ones that clean texts, with their own texts cleaned
+abbrev pub with_cleaned_texts : Settings → Settings
+with_cleaned_texts s = record {
+  prefix = cleaned_text false s.prefix;
+  tags = map cleaned_tag s.tags;
+  container = container_as true s.container;
+  strict = false;
+  cleaned = true;
+}
 
 -- whether the settings are clear: neither the prefix nor the default container has a separator, and each default tag is
 -- clear
 abbrev pub is_clear_settings : Settings → Bool
 is_clear_settings s = is_free_text s.prefix && (list_all is_clear_tag s.tags && is_free_if_any s.container)
+
+-- whether no separator comes from a call into its line: strict settings refuse it, and others may clean the text
+abbrev pub clears_texts : Settings → Bool
+clears_texts s = s.strict || s.cleaned
 
 -- whether the settings allow the text: each text, or if they are strict, each text without a separator
 abbrev pub allows_text : Settings → List ℕ → Bool

@@ -1,5 +1,5 @@
 -- What a contract sees of a client's settings.
-use Rattle.std.specs.Prelude.{◌≡◌, IsTrue, map, string_bytes}
+use Rattle.std.specs.Prelude.{◌≡◌, ◌||◌, IsTrue, map, string_bytes}
 use Rattle.std.specs.Option.{option_map}
 use Rattle.cadence_text.specs.Line.{tags_field}
 use Rattle.cadence_text.specs.Owned.{tag_of_owned}
@@ -13,10 +13,11 @@ settings_seen s = record {
   tags = map tag_of_owned s.tags.items;
   container = option_map string_bytes s.container;
   strict = s.strict;
+  cleaned = s.cleaned;
 }
 
--- What is true of the fields: the text of the tags is that of the default tags, and if the settings are strict, they are
--- clear.
+-- What is true of the fields: the text of the tags is that of the default tags, and if the settings are strict or clean
+-- texts, they are clear.
 pub record IsInOrder {Z : Type 0} (s : Inside Z) : Type 0 where
   pub text : s.text ≡ tags_field (map tag_of_owned s.tags.items)
-  pub clear : IsTrue s.strict → IsTrue (is_clear_settings (settings_seen s))
+  pub clear : IsTrue (s.strict || s.cleaned) → IsTrue (is_clear_settings (settings_seen s))

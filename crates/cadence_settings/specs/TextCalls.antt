@@ -7,8 +7,8 @@ use Rattle.cadence_settings.specs.declared.settings.text.UnfitText.TheVariants.{
 use Rattle.cadence_text.specs.TextValue.{IsFitValue}
 use Rattle.cadence_text.specs.declared.line.draft.text.TextValue.{TextValue}
 
--- The error is that the key has a separator, if the settings don't allow the key (`false`). Otherwise it is that the
--- value can't stand in a line, or that memory ran out and the value can.
+-- If the settings don't allow the key (`false`), the error is that the key has a separator. Otherwise it is that no line
+-- can have the value, or if a line can, that memory ran out.
 abbrev pub TextDraftFails : Bool → TextValue → InputError UnfitText → Type 0
 TextDraftFails false value e = e ≡ Unusable Key
 TextDraftFails true value OutOfMemory = IsFitValue value

@@ -4,7 +4,7 @@ ghost use Rattle.std.specs.List.{fold};
 ghost use Rattle.cadence_value.specs.Values.{Converts};
 ghost use Rattle.cadence_text.specs.Metric.{Metric};
 ghost use Rattle.cadence_settings.specs.Call.{IsDraftOf, chosen, is_clear_call, is_clear_choice};
-ghost use Rattle.cadence_settings.specs.CallData.{call_of, choice_of, kind_of_value, numbers_of_value};
+ghost use Rattle.cadence_settings.specs.CallData.{call_of, choice_of, kind_of_value, numbers_of_value, sent_choice};
 
 use super::settings::{tag_is_clear, text_is_free};
 use cadence_errors::MetricResult;
@@ -163,24 +163,32 @@ impl<A: Allocator> Call<A> {
     }
 }
 
-// Applies one option of a call to the draft of its line. The only error is that memory ran out.
+// Applies one option of a call to the draft of its line, with a cleaned text if `is_cleaned` is set. The only error is
+// that memory ran out.
 fn choose<'a, A: Allocator>(
     draft: &mut DraftLine<'a, A>,
     option: &'a CallOption<A>,
+    is_cleaned: bool,
 ) -> Result<(), AllocError>
     ensures { OnOk result ((m : Metric) → IsDraftOf m draft.old →
-        IsDraftOf (chosen m (choice_of option.now)) draft.new) }
+        IsDraftOf (chosen m (sent_choice is_cleaned option.now)) draft.new) }
 {
     match option {
-        CallOption::Tag(key, text) => draft.add_tag(Tag {
-            key: Some(key.as_str()),
-            text: text.as_str(),
-        })?,
-        CallOption::TagValue(text) => draft.add_tag(Tag {
-            key: None,
-            text: text.as_str(),
-        })?,
-        CallOption::Container(text) => draft.set_container(text.as_str()),
+        CallOption::Tag(key, text) => {
+            let tag = Tag {
+                key: Some(key.as_str()),
+                text: text.as_str(),
+            };
+            draft.add_tag_as(tag, is_cleaned)?
+        }
+        CallOption::TagValue(text) => {
+            let tag = Tag {
+                key: None,
+                text: text.as_str(),
+            };
+            draft.add_tag_as(tag, is_cleaned)?
+        }
+        CallOption::Container(text) => draft.set_container_as(text.as_str(), is_cleaned),
         CallOption::Time(time) => draft.set_time(*time),
         CallOption::Rate(rate) => draft.set_rate(*rate),
     }
@@ -191,12 +199,13 @@ fn choose<'a, A: Allocator>(
 pub(crate) fn choose_all<'a, A: Allocator>(
     draft: &mut DraftLine<'a, A>,
     options: &'a [CallOption<A>],
+    is_cleaned: bool,
 ) -> Result<(), AllocError>
     ensures { OnOk result ((m : Metric) → IsDraftOf m draft.old →
-        IsDraftOf (fold chosen m (map choice_of options.now)) draft.new) }
+        IsDraftOf (fold chosen m (map (sent_choice is_cleaned) options.now)) draft.new) }
 {
     for option in options {
-        choose(draft, option)?;
+        choose(draft, option, is_cleaned)?;
     }
     Ok(())
 }

@@ -11,8 +11,8 @@ mod laws;
 mod settings;
 
 pub use call::{Call, CallOption, CallValue};
-pub use laws::{an_option_is_chosen, strict_calls_are_clear};
+pub use laws::{an_option_is_chosen, cleaned_calls_are_clear, strict_calls_are_clear};
 pub use settings::{
-    ClientSettings, DraftError, Separator, TextError, UnfitText, formatted_prefix, tag_is_clear,
-    text_is_free,
+    ClientSettings, DraftError, KeyText, Separator, TextError, UnfitText, any_is_free,
+    formatted_prefix, key_text, tag_is_clear, tags_are_clear, text_is_free,
 };

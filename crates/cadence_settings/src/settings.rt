@@ -1,30 +1,36 @@
 //! The settings of a client: the prefix, the default tags and the default container that it adds to each call, and the
-//! lines and drafts of calls with them. `record` makes records of calls in place of lines, and `strict` has the tests of
-//! strict settings. `text` makes the drafts of calls whose value is a text.
+//! lines and drafts of calls with them. `record` makes records of calls in place of lines, `strict` has the tests of strict
+//! settings, `cleaning` has settings that clean texts, and `text` makes the drafts of calls whose value is a text.
+mod cleaning;
 mod record;
 mod strict;
 mod text;
 
 ghost use Rattle.std.specs.Prelude.{◌≡◌, [], IfOk, IfErr, IfSome, IsTrue, OnErr, OnOk, Some, string_bytes};
 ghost use Rattle.std.specs.Option.{option_copied};
+ghost use Rattle.cadence_text.specs.Cleaned.{tag_as};
 ghost use Rattle.cadence_text.specs.Draft.{draft_of};
 ghost use Rattle.cadence_text.specs.Line.{line_of, tags_field};
+ghost use Rattle.cadence_text.specs.Owned.{tag_of_owned};
 ghost use Rattle.cadence_text.specs.Representable.{IsRepresentable};
 ghost use Rattle.cadence_value.specs.Values.{numbers_of};
 ghost use Rattle.cadence_settings.specs.Settings.{client_prefix, without_dots, settings_of, with_default_tag, with_default_container};
 ghost use Rattle.cadence_settings.specs.Settings.{FailsFor, allows_tag, allows_text};
-ghost use Rattle.cadence_settings.specs.Call.{metric_of_call, plain_call};
+ghost use Rattle.cadence_settings.specs.Call.{metric_for, metric_of_call, plain_call};
+ghost use Rattle.cadence_settings.specs.KeptTexts.{kept_text};
 ghost use Rattle.cadence_settings.specs.DraftErrors.{DraftFails};
 ghost use Rattle.cadence_settings.specs.CallData.{line_of_data, metric_of_data};
 ghost use Rattle.cadence_settings.specs.CallData.{LineFails};
 
 use super::call::{Call, choose_all};
 use cadence_errors::{MetricError, MetricResult};
-use cadence_text::line::{DraftLine, Head, MetricType, OwnedTag, Tag, TagsText, lend_tag};
+use cadence_text::laws::cleaned_texts_are_clear;
+use cadence_text::line::{DraftLine, Head, MetricType, OwnedTag, Tag, TagsText, cleaned, lend_tag};
 use cadence_value::value::MetricValue;
+pub use cleaning::{KeyText, key_text};
 use std::alloc::{AllocError, Allocator, Global};
 use std::marker::Model;
-pub use strict::{DraftError, Separator, tag_is_clear, text_is_free};
+pub use strict::{DraftError, Separator, any_is_free, tag_is_clear, tags_are_clear, text_is_free};
 pub use text::{TextError, UnfitText};
 
 // How many bytes a draft reserves for the tags and other options of the call itself.
@@ -58,7 +64,8 @@ pub fn formatted_prefix<A: Allocator>(alloc: A, prefix: &str) -> Result<String<A
 
 /// What a client adds to each call: its prefix, its default tags and its default container. Settings can be strict: then
 /// they refuse each text with a colon, a comma, a bar or a newline, so that no text can change another metric. The text
-/// of a tag with a key may have colons, because the first colon of a tag ends its key.
+/// of a tag with a key may have colons, because the first colon of a tag ends its key. Or they can clean texts: then each
+/// such separator is sent as an underscore.
 ///
 /// Contracts see the value as a `Settings` of the definitions.
 #[derive(Drop)]
@@ -69,6 +76,7 @@ pub struct ClientSettings<A: Allocator = Global> {
     text: TagsText<A>,
     container: Option<String<A>>,
     strict: bool,
+    cleaned: bool,
 }
 
 impl<A: Allocator> Model for ClientSettings<A> {
@@ -102,6 +110,7 @@ impl<A: Allocator + Clone> ClientSettings<A> {
             tags: Vec::new(alloc),
             container: None,
             strict: false,
+            cleaned: false,
         })
     }
 
@@ -138,17 +147,38 @@ impl<A: Allocator + Clone> ClientSettings<A> {
         if !self.allows_tag(key, text) {
             return Err(MetricError::from(DraftError::Unusable(Separator)));
         }
-        let alloc = self.tags.allocator();
-        let key = match key {
-            Some(key) => Some(String::from_str(alloc.clone()?, key)?),
-            None => None,
-        };
-        let text = String::from_str(alloc.clone()?, text)?;
-        let tag = (key, text);
+        cleaned_texts_are_clear();
+        let tag = self.kept_tag(key, text)?;
         self.tags.reserve(1)?;
         self.text.add(lend_tag(&tag))?;
         self.tags.push_reserved(tag);
         Ok(())
+    }
+
+    // Returns a copy of a text, which is cleaned if the settings clean texts. The only error is that memory ran out.
+    fn kept_text(&self, text: &str, after_key: bool) -> Result<String<A>, AllocError>
+        ensures { IfOk result (λ kept. string_bytes kept ≡
+            kept_text self.now after_key text.now) }
+    {
+        let alloc = self.tags.allocator().clone()?;
+        if self.cleaned {
+            return cleaned(alloc, text, after_key);
+        }
+        String::from_str(alloc, text)
+    }
+
+    // Returns a copy of a tag, which is cleaned if the settings clean texts. The only error is that memory ran out.
+    fn kept_tag(&self, key: Option<&str>, text: &str) -> Result<OwnedTag<A>, AllocError>
+        ensures { IfOk result (λ kept. tag_of_owned kept ≡ tag_as (self.now).cleaned
+            (record { key = option_copied key.entry; text = text.now })) }
+    {
+        match key {
+            Some(key) => {
+                let kept = self.kept_text(key, false)?;
+                Ok((Some(kept), self.kept_text(text, true)?))
+            }
+            None => Ok((None, self.kept_text(text, false)?)),
+        }
     }
 
     /// Sets the default container, which replaces an earlier one.
@@ -165,8 +195,8 @@ impl<A: Allocator + Clone> ClientSettings<A> {
         if !self.allows_text(container) {
             return Err(MetricError::from(DraftError::Unusable(Separator)));
         }
-        let alloc = self.tags.allocator().clone()?;
-        self.container = Some(String::from_str(alloc, container)?);
+        cleaned_texts_are_clear();
+        self.container = Some(self.kept_text(container, false)?);
         Ok(())
     }
 
@@ -205,20 +235,22 @@ impl<A: Allocator + Clone> ClientSettings<A> {
         value: MetricValue<A>,
     ) -> Result<DraftLine<'a, A>, DraftError>
         ensures draft { IfOk result (λ draft. draft ≡
-            draft_of (metric_of_call self.now (plain_call kind key.now (numbers_of value)))) }
+            draft_of (metric_for self.now (plain_call kind key.now (numbers_of value)))) }
         ensures representable { OnOk result
             (IsRepresentable
-            (metric_of_call self.now (plain_call kind key.now (numbers_of value)))) }
+            (metric_for self.now (plain_call kind key.now (numbers_of value)))) }
         ensures allowed { OnOk result (IsTrue (allows_text self.now key.now)) }
         ensures refused { IfErr result (DraftFails (allows_text self.now key.now)) }
     {
         if !self.allows_text(key) {
             return Err(DraftError::Unusable(Separator));
         }
-        Ok(self.draft_with(key, kind, value, OWN_BYTES)?)
+        let key = self.key_text(key)?;
+        Ok(self.draft_with(key.as_str(), kind, value, OWN_BYTES)?)
     }
 
-    // Returns the draft of the line of a call without options, with room for `room` bytes of options. It tests no text.
+    // Returns the draft of the line of a call without options, with room for `room` bytes of options. It neither
+    // tests nor cleans a text.
     // Without this hint a call of `bench count` takes 134 instructions more.
     #[inline(always)]
     fn draft_with<'a>(
@@ -262,16 +294,17 @@ impl<A: Allocator + Clone> ClientSettings<A> {
         value: MetricValue<A>,
     ) -> Result<DraftLine<'a, A>, DraftError>
         ensures draft { IfOk result (λ draft. draft ≡
-            draft_of (metric_of_call self.now (plain_call kind key.now (numbers_of value)))) }
+            draft_of (metric_for self.now (plain_call kind key.now (numbers_of value)))) }
         ensures allowed { OnOk result (IsTrue (allows_text self.now key.now)) }
         ensures refused { IfErr result (DraftFails (allows_text self.now key.now)) }
     {
         if !self.allows_text(key) {
             return Err(DraftError::Unusable(Separator));
         }
+        let key = self.key_text(key)?;
         let head = Head {
             prefix: &self.prefix,
-            key,
+            key: key.as_str(),
             value,
             kind,
         };
@@ -294,7 +327,7 @@ impl<A: Allocator + Clone> ClientSettings<A> {
         value: MetricValue<A>,
     ) -> Result<String<A>, DraftError>
         ensures line { IfOk result (λ text. string_bytes text ≡
-            line_of (metric_of_call self.now (plain_call kind key.now (numbers_of value)))) }
+            line_of (metric_for self.now (plain_call kind key.now (numbers_of value)))) }
         ensures allowed { OnOk result (IsTrue (allows_text self.now key.now)) }
         ensures refused { IfErr result (DraftFails (allows_text self.now key.now)) }
     {
@@ -305,7 +338,11 @@ impl<A: Allocator + Clone> ClientSettings<A> {
             Some(id) => id.len().saturating_add(3),
             None => 0,
         };
-        Ok(self.draft_with(key, kind, value, room)?.into_text()?)
+        let key = self.key_text(key)?;
+        Ok(
+            self.draft_with(key.as_str(), kind, value, room)?
+                .into_text()?,
+        )
     }
 
     /// Returns the line of a call that is kept as data, with the prefix and the defaults of these settings and the
@@ -327,8 +364,9 @@ impl<A: Allocator + Clone> ClientSettings<A> {
             Ok(value) => value,
             Err(error) => return Err(error),
         };
-        let mut draft = self.draft_with(&call.key, call.value.kind(), value, OWN_BYTES)?;
-        choose_all(&mut draft, &call.options)?;
+        let key = self.key_text(&call.key)?;
+        let mut draft = self.draft_with(key.as_str(), call.value.kind(), value, OWN_BYTES)?;
+        choose_all(&mut draft, &call.options, self.cleaned)?;
         let line = draft.into_text()?;
         Ok(line)
     }

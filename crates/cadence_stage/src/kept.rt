@@ -1,16 +1,16 @@
 //! A stage whose calls leave receipts.
 ghost use Rattle.std.specs.Option.{ok_or};
 ghost use Rattle.cadence_stage.specs.Call.{Flush, Line};
-ghost use Rattle.cadence_stage.specs.Kept.{IsBetween, Shows, stage_of};
+ghost use Rattle.cadence_stage.specs.Kept.{IsBetween, IsStep, Shows, stage_of};
 
 use crate::emit::closed::{Closed, Opener};
 use crate::stage::{LinelessCall, Stage};
 use cadence_errors::SinkError;
 use std::snapshot::Snapshot;
 
-/// A stage whose calls leave receipts. Nobody reaches the stage but by these calls.
-#[derive(Drop)]
-pub(crate) struct Kept<S: Drop> {
+/// A stage whose calls leave receipts. Nobody reaches the stage but by these calls. It has no `Drop`, so that its owner has
+/// to flush it in the end, by `finish`.
+pub(crate) struct Kept<S> {
     stage: S,
 }
 
@@ -72,7 +72,9 @@ impl<S: Stage> Kept<S> {
     }
 
     /// Flushes the stage, and ends it. After an error, the rest is lost.
-    pub(crate) fn finish(self) -> Result<(), SinkError> {
+    pub(crate) fn finish(self) -> Result<(), SinkError>
+        ensures { IsStep S.step (Flush result) }
+    {
         let Kept { mut stage } = self;
         stage.send_rest()
     }

@@ -27,7 +27,9 @@ impl<S: Stage, R: Wait + Drop> Locked<S, R> {
     }
 
     /// Flushes the stage, and ends it, as its drop does. After an error, the rest is lost.
-    pub fn finish(self) -> Result<(), SinkError> {
+    pub fn finish(self) -> Result<(), SinkError>
+        ensures { IsStep S.step (Flush result) }
+    {
         let Locked { rt: _rt, stage } = self;
         stage.into_inner().finish()
     }

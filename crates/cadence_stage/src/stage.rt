@@ -26,8 +26,11 @@ pub trait Stage: Drop {
         ensures step { step self.old self.new (Flush (ok_or result fault.new)) }
         ensures taken { taken self.new ≡ taken self.old };
 
-    /// Sends what the stage holds, before it is dropped. After an error, the rest is lost.
-    fn send_rest(&mut self) -> Result<(), SinkError> {
+    /// Sends what the stage holds, before it is dropped. What it does last is a flush, which has this result. After an
+    /// error, the rest is lost.
+    fn send_rest(&mut self) -> Result<(), SinkError>
+        ensures { (before : Self) × step before self.new (Flush result) }
+    {
         let mut fault = SinkError::NothingWritten;
         self.empty(&mut fault).ok_or(fault)
     }

@@ -1,4 +1,5 @@
--- The grammar of lines: lines read in one way, and which texts are free of separators.
+-- The grammar of lines: lines read in one way, which texts are free of separators, and cleaned texts.
 pub mod LineText
 pub mod FreeTexts
+pub mod Cleaned
 pub mod SeparatorTable

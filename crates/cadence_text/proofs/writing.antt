@@ -4,3 +4,4 @@ pub mod ConvertedLists
 pub mod LineLength
 pub mod WindowText
 pub mod DraftText
+pub mod CleanedPieces

@@ -2,8 +2,9 @@
 use Rattle.std.specs.Prelude.{ℕ, ◌<◌, ◌≤◌, List, ◌++◌, Option, None, All, length, take, drop}
 use Rattle.std.specs.Option.{option_copied}
 use Rattle.std.specs.Str.{IsUtf8}
-use Rattle.cadence_text.specs.declared.line.draft.Head.{Head}
+use Rattle.cadence_text.specs.declared.line.draft.head.Head.{Head}
 use Rattle.cadence_text.specs.declared.line.draft.DraftLine.TheInside.{Inside}
+use Rattle.cadence_text.specs.Cleaned.{container_as}
 use Rattle.cadence_text.specs.Draft.{Draft, head_text}
 use Rattle.cadence_value.specs.Number.{IsDecimal}
 use Rattle.cadence_value.specs.Values.{numbers_of}
@@ -31,7 +32,7 @@ draft_of_inside d = record {
   head = take d.head d.line.bytes.items;
   tags = drop d.head d.line.bytes.items;
   rate = d.rate;
-  container = option_copied d.container;
+  container = container_as d.is_cleaned (option_copied d.container);
   time = d.time;
 }
 

@@ -17,7 +17,7 @@ abbrev pub is_free_if_any : Option (List ℕ) → Bool
 is_free_if_any None = true
 is_free_if_any (Some text) = is_free_text text
 
--- whether the byte is none of the separators `,`, `|` and newline, each of which ends a tag
+-- whether the byte doesn't end a tag: it is neither a comma nor a bar nor a newline
 unfoldable pub is_no_tag_end : ℕ → Bool
 is_no_tag_end byte = not (byte == 44) && (not (byte == 124) && not (byte == 10))
 

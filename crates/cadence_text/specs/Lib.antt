@@ -7,6 +7,7 @@ pub mod DraftParts
 pub mod MetricInMemory
 pub mod OneReading
 pub mod FreeTexts
+pub mod Cleaned
 pub mod Record
 pub mod PieceWriters
 pub mod Owned

@@ -8,7 +8,7 @@ use Rattle.cadence_text.specs.Line.{line_of}
 abbrev pub IsNoSeparator : ℕ → Type 0
 IsNoSeparator byte = (byte ≢ 58) × (byte ≢ 44) × (byte ≢ 124) × (byte ≢ 10)
 
--- The byte is none of the separators `,`, `|` and newline, each of which ends a tag.
+-- The byte doesn't end a tag: it is neither a comma nor a bar nor a newline.
 abbrev pub IsNoTagEnd : ℕ → Type 0
 IsNoTagEnd byte = (byte ≢ 44) × (byte ≢ 124) × (byte ≢ 10)
 

@@ -1,6 +1,7 @@
 -- For proofs: what a line is written to, piece by piece, which is a window, a buffer or a counter of bytes. For each, the
 -- text that it ends with.
-use Rattle.std.specs.Prelude.{ℕ, ◌+◌, ◌-◌, ◌%◌, ◌^◌, nat_lt, if◌then◌else◌, List, [], ◌++◌, length, take, drop, replicate}
+use Rattle.std.specs.Prelude.{ℕ, ◌+◌, ◌-◌, ◌%◌, ◌^◌, nat_lt, if◌then◌else◌, List, [], ◌++◌, length, map, take, drop, replicate, Bool}
+use Rattle.cadence_text.specs.Cleaned.{cleaned_byte}
 use Rattle.cadence_text.specs.declared.line.line_buf.LengthCounter.{LengthCounter}
 use Rattle.cadence_text.specs.declared.line.line_buf.LineBuf.{LineBuf}
 use Rattle.cadence_text.specs.declared.line.window.Window.{Window}
@@ -31,3 +32,7 @@ counter_ends c rest = replicate ((c.length + length rest) % 2 ^ 128) 0
 -- the text after its part from `start` is rotated: the first `count` bytes of that part move to the end
 abbrev pub rotated_text : ℕ → ℕ → List ℕ → List ℕ
 rotated_text start count items = take start items ++ (drop count (drop start items) ++ take count (drop start items))
+
+-- the text with an underscore in place of each separator after the first `start` bytes
+abbrev pub cleaned_after : ℕ → Bool → List ℕ → List ℕ
+cleaned_after start after_key items = take start items ++ map (cleaned_byte after_key) (drop start items)

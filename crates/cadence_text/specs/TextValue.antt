@@ -31,7 +31,7 @@ abbrev pub value_kind : TextValue → MetricType
 value_kind (Member text) = Set
 value_kind (Change n) = Gauge
 
--- The value can stand in a line. Each change can.
+-- A line can have this value: each change, and a member that its text can be.
 abbrev pub IsFitValue : TextValue → Type 0
 IsFitValue (Member text) = IsMember text.now
 IsFitValue (Change n) = ⊤

@@ -4,6 +4,7 @@
 //! A metric is clear if its name and its container id have no colon, comma, bar or newline, and each of its tags is
 //! clear: its key has none of them, and its text has none, except that colons may follow a key. A metric is free of
 //! separators if no text of it has any.
+ghost use Rattle.cadence_text.specs.Cleaned.{CleanedTextsAreClear};
 ghost use Rattle.cadence_text.specs.Laws.{ClearTextsPass, FreeIsClear, LineReadsOneWay, NoLineIsEmpty, PacketReadsOneWay};
 
 /// States that two different clear metrics have different lines. Does nothing when it is called.
@@ -32,4 +33,10 @@ pub fn no_line_is_empty()
 /// nothing when it is called.
 pub fn clear_texts_pass()
     ensures { ClearTextsPass }
+{}
+
+/// States that cleaned texts and tags have no separator where it would end them, and that texts and tags without such a
+/// separator stay as they are when they are cleaned. Does nothing when it is called.
+pub fn cleaned_texts_are_clear()
+    ensures { CleanedTextsAreClear }
 {}

@@ -4,6 +4,7 @@
 //! `Record` is a metric as data: it can be compared and formatted more than once. An `OwnedMetric` is what is read back
 //! from a line.
 
+mod cleaning;
 mod draft;
 mod line_buf;
 mod options;
@@ -14,6 +15,7 @@ mod tag;
 mod window;
 
 use cadence_value::text::PieceWriter;
+pub use cleaning::cleaned;
 pub use draft::{DraftLine, Head, TagsText, TextValue, is_member};
 pub use record::{OwnedMetric, Record};
 pub use separators::{first_separator, is_free, is_free_after_key};

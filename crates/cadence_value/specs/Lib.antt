@@ -1,4 +1,5 @@
 pub use Rattle.cadence_errors.specs.Errors
+pub mod Chances
 pub mod Number
 pub mod Finds
 pub mod PrintedNumber

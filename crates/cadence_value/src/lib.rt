@@ -1,5 +1,6 @@
 //! Decimal numbers, the values of metrics, and the texts of both.
 //!
+//! - `chance`: chances, with which calls or lines are chosen at random.
 //! - `decimal`: exact decimal numbers, and how they are read from a text.
 //! - `spelled`: reads numbers in any spelling, as in `.5`, `+3` and `1.5e+06`.
 //! - `value`: the values of metrics, and the types that each kind of metric accepts as its value.
@@ -10,6 +11,7 @@
 #![tactic(auto)]
 
 pub mod bytes;
+pub mod chance;
 pub mod decimal;
 pub mod laws;
 mod number;

@@ -46,10 +46,10 @@ module _ {Z : Type 0} (d : Defaults Z) (f : Fields) where
   check_first (k ∷ a ∷ b ∷ words) line h = h.0
 
   metric_first : (words : List (List ℕ)) (line : List ℕ) → IsLineOfWords d words line → (kind : MetricType) × NamesKind (first_word words) kind
-  metric_first [] line h = absurd h.1
-  metric_first (k ∷ []) line h = absurd h.1
-  metric_first (k ∷ a ∷ []) line h = absurd h.1
-  metric_first (k ∷ a ∷ b ∷ words) line h = (h.0.kind, h.1.0)
+  metric_first [] line h = absurd h
+  metric_first (k ∷ []) line h = absurd h
+  metric_first (k ∷ a ∷ []) line h = absurd h
+  metric_first (k ∷ a ∷ b ∷ words) line (h, are, text) = (h.0, are.named)
 
   -- So words with one of these first words ask for nothing else.
   pub event_only : (words : List (List ℕ)) → first_word words ≡ codes "event" → (line : List ℕ) → IsLineOfCommand d f words line

@@ -97,16 +97,16 @@ pub record IsValueWord (kind : MetricType) (word : List ℕ) (numbers : List Num
   pub each : AllZip (IsNumberWord kind) (slice_split (λ b. b == 44) word) numbers
   pub few : AllowsSeveral kind ⊎ (length numbers ≡ 1)
 
--- whether the word begins with a plus
-abbrev pub begins_with_plus : List ℕ → Bool
-begins_with_plus [] = false
-begins_with_plus (byte ∷ bytes) = byte == 43
+-- whether the word begins with this byte
+abbrev pub begins_with : ℕ → List ℕ → Bool
+begins_with mark [] = false
+begins_with mark (byte ∷ bytes) = byte == mark
 
 -- whether the value that the word says for a kind is a text: a member of a set, or a change of a gauge
 abbrev pub is_text_word : MetricType → List ℕ → Bool
 is_text_word Counter word = false
 is_text_word Timer word = false
-is_text_word Gauge word = begins_with_plus word
+is_text_word Gauge word = begins_with 43 word
 is_text_word Meter word = false
 is_text_word Histogram word = false
 is_text_word Set word = true
@@ -143,26 +143,42 @@ SaysValue false kind word text = SaysNumbers kind word text
 abbrev pub IsValueOf : MetricType → List ℕ → List ℕ → Type 0
 IsValueOf kind word text = SaysValue (is_text_word kind word) kind word text
 
--- The first word names the kind, the second is a name, and the third says the value, whose text is this.
-pub record AreHead (kind_word name value : List ℕ) (kind : MetricType) (text : List ℕ) : Type 0 where
+-- whether the word sets a metric of this kind to a number: it begins with `=`, and the kind is that of gauges
+abbrev pub is_level_word : MetricType → List ℕ → Bool
+is_level_word Counter word = false
+is_level_word Timer word = false
+is_level_word Gauge word = begins_with 61 word
+is_level_word Meter word = false
+is_level_word Histogram word = false
+is_level_word Set word = false
+is_level_word Distribution word = false
+
+-- The word is `=` and a number after it, which is this.
+abbrev pub SaysLevel : List ℕ → Number → Type 0
+SaysLevel [] n = ⊥
+SaysLevel (byte ∷ word) n = (byte ≡ 61) × SaysDecimal word n
+
+-- what a word says about a metric: the text of its value, or the number to which a gauge is set
+pub data Said : Type 0 where
+  valued : List ℕ → Said
+  leveled : Number → Said
+
+-- The word, which sets a gauge (`true`) or not, says this about a metric of this kind.
+abbrev pub SaysOf : Bool → MetricType → List ℕ → Said → Type 0
+SaysOf true kind word (leveled n) = SaysLevel word n
+SaysOf true kind word (valued text) = ⊥
+SaysOf false kind word (leveled n) = ⊥
+SaysOf false kind word (valued text) = IsValueOf kind word text
+
+-- The word says this about a metric of this kind.
+abbrev pub IsSaidOf : MetricType → List ℕ → Said → Type 0
+IsSaidOf kind word said = SaysOf (is_level_word kind word) kind word said
+
+-- The first word names the kind, the second is a name, and the third says this.
+pub record AreHead (kind_word name value : List ℕ) (kind : MetricType) (said : Said) : Type 0 where
   pub named : NamesKind kind_word kind
   pub word : IsWord name
-  pub valued : IsValueOf kind value text
-
--- the parts of a metric that words ask for; the value is its text
-pub record Asked : Type 0 where
-  pub kind : MetricType
-  pub name : List ℕ
-  pub value : List ℕ
-  pub tags : List Tag
-
--- The words ask for these parts: a kind, a name, a value and any tags.
-abbrev pub AskFor : List (List ℕ) → Asked → Type 0
-AskFor [] asked = ⊥
-AskFor (kind ∷ []) asked = ⊥
-AskFor (kind ∷ name ∷ []) asked = ⊥
-AskFor (kind ∷ name ∷ value ∷ tags) asked =
-    NamesKind kind asked.kind × (asked.name ≡ name) × IsWord name × IsValueOf asked.kind value asked.value × AllZip IsTagWord tags asked.tags
+  pub says : IsSaidOf kind value said
 
 -- If the result is Ok, the draft got the word's tag. If it is an error, it is one that `FailsAsWord` allows.
 abbrev pub AddsTag : List ℕ → Draft → Draft → Result (Unit {0}) (InputError Part) → Type 0

@@ -1,9 +1,10 @@
 pub mod Asked
-pub mod Chances
 pub mod Commands
 pub mod Duration
 pub mod Events
 pub mod Finds
 pub mod Heads
+pub mod Levels
 pub mod Lines
+pub mod Samples
 pub mod TagWords

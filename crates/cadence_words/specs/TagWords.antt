@@ -1,8 +1,8 @@
 -- The words of a line's tags.
 use Rattle.std.specs.Prelude.{ℕ, List, map}
 use Rattle.cadence_words.specs.Asked.{words_of}
-use Rattle.cadence_words.specs.declared.line.Tags.{Tags}
-use Rattle.cadence_words.specs.declared.line.Tags.TheVariants.{Words, Text}
+use Rattle.cadence_words.specs.declared.tags.Tags.{Tags}
+use Rattle.cadence_words.specs.declared.tags.Tags.TheVariants.{Words, Text}
 
 -- the words of the tags: those of a list, or those between the spaces of a text
 abbrev pub tag_words : Tags → List (List ℕ)

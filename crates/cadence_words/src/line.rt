@@ -1,31 +1,29 @@
 //! Writes the line of a metric from the words that ask for it.
-ghost use Rattle.std.specs.Prelude.{◌≡◌, [], ◌∷◌, IfOk, None, map};
-ghost use Rattle.cadence_settings.specs.Call.{metric_of_call, plain_call};
-ghost use Rattle.cadence_words.specs.Asked.{AddsTag, AddsTags, AreHead, words_of};
+ghost use Rattle.std.specs.Prelude.{◌∷◌, map, true};
+ghost use Rattle.cadence_words.specs.Asked.{AreHead, words_of};
 ghost use Rattle.cadence_words.specs.Finds.{FindsOrFails};
-ghost use Rattle.cadence_words.specs.Lines.{IsLineOfText, IsLineOfWords, with_rate_and_time};
+ghost use Rattle.cadence_words.specs.Lines.{IsLineOfGiven, IsLineOfText, IsLineOfWords, IsTextOf, said_text, words_as};
 ghost use Rattle.cadence_words.specs.TagWords.{tag_words};
-ghost use Rattle.cadence_words.specs.Heads.{head_of};
-ghost use Rattle.cadence_text.specs.Draft.{draft_with};
+ghost use Rattle.cadence_words.specs.Heads.{said_of};
 
 use crate::defaults::Defaults;
-use crate::text::{Value, read_value};
+use crate::draft::write_value;
+use crate::given::{Given, read_given};
+use crate::level::write_level;
+use crate::tags::{Tags, lend_words};
 use crate::word_error::{Part, WordError};
-use crate::words::{is_word, read_kind, read_tag, split_word, utf8_text};
-use cadence_settings::ClientSettings;
-use cadence_text::line::DraftLine;
-use cadence_value::decimal::Decimal;
-use std::alloc::{AllocError, Allocator};
-use std::mem;
+use crate::words::{is_word, read_kind, split_word, utf8_text};
+use cadence_text::line::cleaned;
+use std::alloc::Allocator;
 
-// Reads the kind and the value, and checks the name.
+// Reads the kind and what is said of the value, and checks the name.
 fn read_head<'a, A: Allocator + Clone>(
     alloc: &A,
     kind: &str,
     name: &str,
     value: &'a str,
-) -> Result<Value<'a, A>, WordError>
-    ensures { FindsOrFails (λ h. AreHead kind.now name.now value.now h.0 h.1) head_of result }
+) -> Result<Given<'a, A>, WordError>
+    ensures { FindsOrFails (λ h. AreHead kind.now name.now value.now h.0 h.1) said_of result }
 {
     let Some(kind) = read_kind(kind) else {
         return Err(WordError::Unusable(Part::Kind));
@@ -33,120 +31,70 @@ fn read_head<'a, A: Allocator + Clone>(
     if !is_word(name) {
         return Err(WordError::Unusable(Part::Name));
     }
-    read_value(alloc, kind, value)
+    read_given(alloc, kind, value)
 }
 
-// Adds the tag that a word says.
-fn add_tag<A: Allocator>(draft: &mut DraftLine<'_, A>, word: &str) -> Result<(), WordError>
-    ensures { AddsTag word.now draft.old draft.new result }
+// Writes what sends a value, or sets a gauge, with a name and tags into a buffer, in place of its text.
+fn write_said<A: Allocator + Clone>(
+    alloc: &A,
+    defaults: &Defaults<A>,
+    buffer: &mut Vec<u8, A>,
+    name: &str,
+    given: Given<'_, A>,
+    tags: Tags<'_>,
+) -> Result<(), WordError>
+    ensures { FindsOrFails (IsTextOf defaults.now (said_text (said_of given.entry).1)
+        (said_of given.entry).0 name.now (tag_words tags.entry)) (λ _. buffer.new.items) result }
 {
-    let Some(tag) = read_tag(word) else {
-        return Err(WordError::Unusable(Part::Tag));
+    match given {
+        Given::Value(value) => write_value(alloc, defaults, buffer, name, value, tags),
+        Given::Level(kind, number) => {
+            write_level(alloc, defaults, buffer, kind, name, number, tags)
+        }
+    }
+}
+
+// Writes the line of the metric of a kind, a name, a value and tags, as they are given, into a buffer, in place of its
+// text.
+fn write_given_line<A: Allocator + Clone>(
+    alloc: &A,
+    defaults: &Defaults<A>,
+    buffer: &mut Vec<u8, A>,
+    kind: &str,
+    name: &str,
+    value: &str,
+    tags: Tags<'_>,
+) -> Result<(), WordError>
+    ensures { FindsOrFails (IsLineOfGiven defaults.now
+        (kind.now ∷ name.now ∷ value.now ∷ tag_words tags.entry)) (λ _. buffer.new.items) result }
+{
+    let given = match read_head(alloc, kind, name, value) {
+        Ok(given) => given,
+        Err(error) => return Err(error),
     };
-    draft.add_tag(tag)?;
-    Ok(())
+    write_said(alloc, defaults, buffer, name, given, tags)
 }
 
-// Adds the tags that the words say.
-fn add_tags<A: Allocator>(draft: &mut DraftLine<'_, A>, words: &[&str]) -> Result<(), WordError>
-    ensures { AddsTags (map (λ w. w.now) words.now) draft.old draft.new result }
-{
-    for word in words {
-        add_tag(draft, word)?;
-    }
-    Ok(())
-}
-
-// Adds the tags that the words of a text say.
-fn add_all<A: Allocator>(draft: &mut DraftLine<'_, A>, text: &str) -> Result<(), WordError>
-    ensures { AddsTags (words_of text.now) draft.old draft.new result }
-{
-    let mut left = text;
-    while let Some((word, others)) = split_word(left) {
-        add_tag(draft, word)?;
-        left = others;
-    }
-    Ok(())
-}
-
-// The words of the tags.
-#[derive(Clone, Copy)]
-enum Tags<'a> {
-    // A list of words.
-    Words(&'a [&'a str]),
-    // The words between the spaces of a text.
-    Text(&'a str),
-}
-
-impl Tags<'_> {
-    // Adds the tags to a draft.
-    fn add_to<A: Allocator>(self, draft: &mut DraftLine<'_, A>) -> Result<(), WordError>
-        ensures { AddsTags (tag_words self.entry) draft.old draft.new result }
-    {
-        match self {
-            Tags::Words(words) => add_tags(draft, words),
-            Tags::Text(text) => add_all(draft, text),
-        }
-    }
-}
-
-// Sets the rate and the time of a draft that has neither, if the command line gives them.
-fn set_rate_and_time<A: Allocator>(
-    draft: &mut DraftLine<'_, A>,
-    rate: Option<Decimal>,
-    time: Option<u64>,
-)
-    requires { (draft.old.rate ≡ None) × (draft.old.time ≡ None) }
-    ensures { draft.new ≡ record draft.old { rate = rate; time = time } }
-{
-    if let Some(rate) = rate {
-        draft.set_rate(rate);
-    }
-    if let Some(time) = time {
-        draft.set_time(time);
-    }
-}
-
-// Returns the draft of a metric without options of its own. The draft takes the memory of the buffer. The caller tested
-// the name and the value, so an error of the settings says that memory ran out.
-fn plain_draft<'a, A: Allocator + Clone>(
-    settings: &'a ClientSettings<A>,
-    buffer: Vec<u8, A>,
+// Writes the line of the metric of a kind, a name, a value and tags into a buffer, in place of its text. The name and
+// the words of the tags are cleaned first.
+#[cold]
+fn write_cleaned_line<A: Allocator + Clone>(
+    alloc: &A,
+    defaults: &Defaults<A>,
+    buffer: &mut Vec<u8, A>,
+    kind: &str,
     name: &str,
-    value: Value<'_, A>,
-) -> Result<DraftLine<'a, A>, AllocError>
-    ensures { IfOk result (λ draft. draft ≡ draft_with (head_of value.entry).1
-        (metric_of_call settings.now (plain_call (head_of value.entry).0 name.now []))) }
+    value: &str,
+    tags: Tags<'_>,
+) -> Result<(), WordError>
+    ensures { FindsOrFails (IsLineOfGiven defaults.now (words_as true
+        (kind.now ∷ name.now ∷ value.now ∷ tag_words tags.entry))) (λ _. buffer.new.items) result }
 {
-    match value {
-        Value::Numbers(kind, numbers) => {
-            match settings.draft_in_buffer(buffer, name, kind, numbers) {
-                Ok(draft) => Ok(draft),
-                Err(_) => Err(AllocError),
-            }
-        }
-        Value::Text(text) => match settings.text_draft(buffer, name, &text) {
-            Ok(draft) => Ok(draft),
-            Err(_) => Err(AllocError),
-        },
-    }
-}
-
-// Returns the draft of a metric without tags of its own, with all that the command line adds. The draft takes the
-// memory of the buffer.
-fn draft_in_buffer<'a, A: Allocator + Clone>(
-    defaults: &'a Defaults<A>,
-    buffer: Vec<u8, A>,
-    name: &str,
-    value: Value<'_, A>,
-) -> Result<DraftLine<'a, A>, AllocError>
-    ensures { IfOk result (λ draft. draft ≡ draft_with (head_of value.entry).1
-        (with_rate_and_time defaults.now (metric_of_call defaults.now.settings
-        (plain_call (head_of value.entry).0 name.now [])))) }
-{
-    let mut draft = plain_draft(&defaults.settings, buffer, name, value)?;
-    set_rate_and_time(&mut draft, defaults.rate, defaults.time);
-    Ok(draft)
+    let name = cleaned(alloc.clone()?, name, false)?;
+    let words = tags.cleaned(alloc)?;
+    let lent = lend_words(alloc.clone()?, &words)?;
+    let tags = Tags::Words(&lent);
+    write_given_line(alloc, defaults, buffer, kind, &name, value, tags)
 }
 
 // Writes the line of the metric of a kind, a name, a value and tags into a buffer, in place of its text.
@@ -162,19 +110,17 @@ fn write_line<A: Allocator + Clone>(
     ensures { FindsOrFails (IsLineOfWords defaults.now
         (kind.now ∷ name.now ∷ value.now ∷ tag_words tags.entry)) (λ _. buffer.new.items) result }
 {
-    let value = match read_head(alloc, kind, name, value) {
-        Ok(value) => value,
-        Err(error) => return Err(error),
-    };
-    let memory = mem::replace(buffer, Vec::new(alloc.clone()?));
-    let mut draft = draft_in_buffer(defaults, memory, name, value)?;
-    tags.add_to(&mut draft)?;
-    *buffer = draft.into_bytes()?;
-    Ok(())
+    if defaults.settings.is_cleaned() {
+        return write_cleaned_line(alloc, defaults, buffer, kind, name, value, tags);
+    }
+    write_given_line(alloc, defaults, buffer, kind, name, value, tags)
 }
 
 /// Writes the line of a metric into a buffer, in place of its text. The words are KIND NAME VALUE and any tags, and the
-/// command line adds its defaults. The caller can use one buffer for many lines, and so save memory requests.
+/// command line adds its defaults. If the settings clean texts, an underscore replaces each separator in the name and in
+/// the tags, whose colons stay. The caller can use one buffer for many lines, and so save memory requests.
+///
+/// A `=` before the value of a gauge sets the gauge. If the value is below 0, the line of 0 and a newline come first.
 ///
 /// # Errors
 /// `Unusable` if the words ask for no metric, and `OutOfMemory`. If a tag is unreadable or memory runs out for the
@@ -225,7 +171,8 @@ fn write_line_of_str<A: Allocator + Clone>(
 }
 
 /// Writes the line of a metric into a buffer, in place of its text. The words KIND NAME VALUE and any tags are
-/// separated by spaces, and the command line adds its defaults.
+/// separated by spaces, and the command line adds its defaults. If the settings clean texts, an underscore replaces each
+/// separator in the name and in the tags, whose colons stay. A gauge is set as `write_line_of_words` sets it.
 ///
 /// # Errors
 /// `Unusable` if the text asks for no metric, and `OutOfMemory`. If a tag is unreadable or memory runs out for the

@@ -1,47 +1,11 @@
 //! Lets only a random sample of the lines of an input pass.
-ghost use Rattle.std.specs.Prelude.{◌≡◌, ◌↔◌, ◌*◌, ◌^◌, ◌<◌, IfSome, IsTrue, None};
-ghost use Rattle.cadence_words.specs.Chances.{IsChance, IsPassed};
+ghost use Rattle.std.specs.Prelude.{◌≡◌, IsTrue, None};
+ghost use Rattle.cadence_words.specs.Samples.{IsPassed};
 
-use cadence_value::decimal::Decimal;
+use cadence_value::chance::Chance;
 use rand_core::Rng;
 use std::io;
 use std::io::Read;
-
-// The most decimal places of a chance.
-const MOST_PLACES: u8 = 18;
-
-/// A number above 0 and at most 1: the chance with which a line passes.
-#[derive(Clone, Copy, Debug, PartialEq, Eq)]
-pub struct Chance {
-    // The chance is `size` divided by `scale`.
-    size: u64,
-    scale: u64,
-}
-
-impl Chance {
-    /// Returns the chance that is this number. Returns `None` if the number is not above 0, if it is above 1, or if it has
-    /// more than 18 decimal places.
-    pub fn new(number: Decimal) -> Option<Chance>
-        ensures { IfSome result (IsChance number) }
-    {
-        if number.places() > MOST_PLACES {
-            return None;
-        }
-        let scale = 10u64.pow(u32::from(number.places()));
-        let size = u64::try_from(number.mantissa()).ok()?;
-        if size == 0 || size > scale {
-            return None;
-        }
-        Some(Chance { size, scale })
-    }
-
-    /// Returns whether this number of 64 bits, divided by 2^64, is below the chance.
-    pub fn is_above(self, number: u64) -> bool
-        ensures { IsTrue result ↔ number * self.scale < self.size * 2 ^ 64 }
-    {
-        u128::from(number) * u128::from(self.scale) < u128::from(self.size) * (1 << 64)
-    }
-}
 
 /// Chooses lines at random: each with a chance, or all if there is none.
 #[derive(Drop)]

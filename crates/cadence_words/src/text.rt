@@ -3,7 +3,7 @@ ghost use Rattle.std.specs.Prelude.{◌≡◌};
 ghost use Rattle.std.specs.Option.{option_map};
 ghost use Rattle.cadence_text.specs.declared.line.MetricType.TheVariants.{Gauge, Set};
 ghost use Rattle.cadence_value.specs.Finds.{Finds};
-ghost use Rattle.cadence_words.specs.Asked.{IsValueOf, SaysChange, SaysMember, SaysText, begins_with_plus, is_text_word};
+ghost use Rattle.cadence_words.specs.Asked.{IsValueOf, SaysChange, SaysMember, SaysText, begins_with, is_text_word};
 ghost use Rattle.cadence_words.specs.Finds.{FindsOrFails};
 ghost use Rattle.cadence_words.specs.Heads.{head_of, text_head};
 
@@ -21,12 +21,12 @@ pub(crate) enum Value<'a, A: Allocator> {
     Text(TextValue<'a>),
 }
 
-// Returns whether a word begins with a plus.
-fn begins_with_plus(word: &str) -> bool
-    ensures { result ≡ begins_with_plus word.now }
+// Returns whether a word begins with this byte.
+pub(crate) fn begins_with(mark: u8, word: &str) -> bool
+    ensures { result ≡ begins_with mark word.now }
 {
     match word.as_bytes().first() {
-        Some(byte) => *byte == b'+',
+        Some(byte) => *byte == mark,
         None => false,
     }
 }
@@ -38,7 +38,7 @@ fn is_text_word(kind: MetricType, word: &str) -> bool
 {
     match kind {
         MetricType::Set => true,
-        MetricType::Gauge => begins_with_plus(word),
+        MetricType::Gauge => begins_with(b'+', word),
         _ => false,
     }
 }

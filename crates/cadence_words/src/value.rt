@@ -89,7 +89,7 @@ fn is_single(word: &str) -> bool
 }
 
 // Returns a value of one number. A whole number that fits 64 bits is signed, because those print fastest.
-fn single_value<A: Allocator>(number: Decimal) -> MetricValue<A>
+pub(crate) fn single_value<A: Allocator>(number: Decimal) -> MetricValue<A>
     ensures { numbers_of result ≡ number ∷ [] }
 {
     if number.places() > 0 {

@@ -38,7 +38,9 @@ fn wanted_value(kind: MetricType) -> &'static str {
         MetricType::Timer => {
             "VALUE of ms is milliseconds from 0, or durations, as in `ms wait 12.5,1.25s`"
         }
-        MetricType::Gauge => "VALUE of g is a number, or a change as +5, as in `g load 0.75`",
+        MetricType::Gauge => {
+            "VALUE of g is a number, a change as +5, or a level as =-5, as in `g load 0.75`"
+        }
         MetricType::Meter => "VALUE of m is a whole number from 0, as in `m requests 1`",
         MetricType::Histogram => {
             "VALUE of h is numbers, or durations, which are sent in nanoseconds, as in `h size 0.75,12`"

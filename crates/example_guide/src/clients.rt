@@ -6,8 +6,8 @@ use cadence::client::ErrorHandler;
 use cadence::prelude::*;
 use cadence::sinks::SpyReceiver;
 use cadence::{
-    BufferedSpyMetricSink, MetricResult, MetricSink, NopMetricSink, Runtime, SpyMetricSink,
-    StatsdClient,
+    BufferedSpyMetricSink, Chance, Decimal, MetricResult, MetricSink, NopMetricSink, Runtime,
+    SpyMetricSink, StatsdClient,
 };
 use std::alloc::Global;
 
@@ -86,6 +86,10 @@ fn add_packet<R: Runtime>(rt: &R, alloc: Global, text: &mut String) -> MetricRes
 fn send_all<S: MetricSink>(alloc: Global, client: &StatsdClient<Global, S>) -> MetricResult<()> {
     kinds::send_each_kind(alloc, client)?;
     kinds::send_with_options(client)?;
+    if let Some(tenth) = Chance::new(Decimal::new(1, 1)?) {
+        kinds::send_sample(client, tenth, 0)?;
+        kinds::send_sample(client, tenth, u64::MAX)?; // not sent
+    }
     kinds::send_news(client)?;
     kinds::send_seven(client)?;
     kinds::send_tenth(client)?;

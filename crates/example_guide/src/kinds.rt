@@ -1,9 +1,9 @@
 //! Each kind of metric, and what a metric may have besides its value: tags, a container, a timestamp, a sampling rate.
-//! And events and service checks.
+//! Samples of calls, events and service checks.
 
 use cadence::decimal::Decimal;
 use cadence::prelude::*;
-use cadence::{AlertType, MetricResult, MetricSink, ServiceStatus, StatsdClient};
+use cadence::{AlertType, Chance, MetricResult, MetricSink, ServiceStatus, StatsdClient};
 use std::alloc::Global;
 use std::time::Duration;
 
@@ -21,6 +21,9 @@ pub fn send_each_kind<S: MetricSink>(
     client.histogram("size", 512u64)?;
     client.distribution("latency", Vec::from_slice(alloc, &[29u64, 30, 31])?)?;
     client.set("users", 42)?;
+    client.set_text("users", "alice")?;
+    client.change("load", Decimal::new(5, 1)?)?; // +0.5
+    client.level("balance", Decimal::new(-5, 0)?)?; // 0, then -5
     Ok(())
 }
 
@@ -35,6 +38,18 @@ pub fn send_with_options<S: MetricSink>(client: &StatsdClient<Global, S>) -> Met
         .with_timestamp(1_700_000_000)
         .with_sampling_rate(half)
         .try_send()?;
+    Ok(())
+}
+
+/// Sends a sample of a counter: it is sent if the number drawn, divided by 2^64, is below the chance.
+pub fn send_sample<S: MetricSink>(
+    client: &StatsdClient<Global, S>,
+    tenth: Chance,
+    draw: u64,
+) -> MetricResult<()> {
+    client
+        .incr_with_tags("requests")
+        .try_send_sampled(tenth, draw)?; // requests:1|c|@0.1
     Ok(())
 }
 
@@ -61,6 +76,8 @@ pub fn send_seven<S: MetricSink>(client: &StatsdClient<Global, S>) -> MetricResu
     client.histogram("latency", Duration::from_micros(83))?;
     client.distribution("payload", 1500)?;
     client.set("users", 4711)?;
+    client.set_text("users", "alice")?;
+    client.change("load", Decimal::new(3, 0)?)?;
     Ok(())
 }
 

@@ -24,6 +24,7 @@ VALUE  c      a whole number
        ms, h and d take several values, as 12,250, which a DogStatsD server of version 1.1 reads
        Most Statsd servers read a gauge with a minus as a decrement, DogStatsD as the value.
        A gauge with a plus is a change: g load +3 adds 3, and g load 3 sets it to 3.
+       A gauge with = is set, also below 0, by two lines in one packet: g load =-3.
        Numbers, but not those of durations, may be as tools print them: .5, +1, 1e+06.
 TAG    K:V or V; behind --, and in --tag=TAG, also one that begins with a dash
 STATUS ok, warning, critical, unknown, or 0 to 3, as the status of a plugin of Nagios
@@ -40,6 +41,9 @@ const WAIT: &str = "how long a pipe waits for room at a Unix socket; after that 
 lost until the socket takes one again [by default it waits for ever]";
 
 const STRICT: &str = "tests the tags of the environment for separators once more";
+
+const CLEAN: &str = "sends an underscore for each separator in a name or a tag, also of
+--prefix, --tag, --container and the environment, in place of refusing it";
 
 const TARGET: &str = "Target";
 
@@ -125,12 +129,24 @@ fn flag<'a>(
         .overrides_with(name)
 }
 
+// Adds the options that only events and service checks have.
+fn with_event_options<'a>(alloc: Global, command: Command<'a>) -> Result<Command<'a>, AllocError> {
+    command
+        .arg(option(alloc, "host", "NAME", HOST, EVENTS))?
+        .arg(option(alloc, "aggregation-key", "TEXT", KEY, EVENTS))?
+        .arg(option(alloc, "priority", "PRIORITY", PRIORITY, EVENTS))?
+        .arg(option(alloc, "source", "TEXT", SOURCE, EVENTS))?
+        .arg(option(alloc, "alert", "TYPE", ALERT, EVENTS))?
+        .arg(option(alloc, "message", "TEXT", MESSAGE, EVENTS))
+}
+
 // Returns what the command line may have.
 // It lives as long as the words that it reads, because the checker takes no longer lifetime for a shorter one here.
 fn command<'a>(alloc: Global) -> Result<Command<'a>, AllocError> {
     let words = Arg::new(alloc, "words").num_args(0..).hide(true);
     let sample = option(alloc, "sample", "CHANCE", SAMPLE, METRICS).conflicts_with("rate")?;
-    Command::new(alloc, "statsd_send")
+    let clean = flag(alloc, "clean", CLEAN, LINES)?.conflicts_with("strict")?;
+    let command = Command::new(alloc, "statsd_send")
         .version(VERSION)
         .override_usage(USAGE)
         .after_help(NOTES)
@@ -149,12 +165,8 @@ fn command<'a>(alloc: Global) -> Result<Command<'a>, AllocError> {
         .arg(flag(alloc, "drop", DROP, TARGET)?)?
         .arg(flag(alloc, "print", "prints the packets, and sends none", TARGET)?)?
         .arg(flag(alloc, "strict", STRICT, LINES)?)?
-        .arg(option(alloc, "host", "NAME", HOST, EVENTS))?
-        .arg(option(alloc, "aggregation-key", "TEXT", KEY, EVENTS))?
-        .arg(option(alloc, "priority", "PRIORITY", PRIORITY, EVENTS))?
-        .arg(option(alloc, "source", "TEXT", SOURCE, EVENTS))?
-        .arg(option(alloc, "alert", "TYPE", ALERT, EVENTS))?
-        .arg(option(alloc, "message", "TEXT", MESSAGE, EVENTS))
+        .arg(clean)?;
+    with_event_options(alloc, command)
 }
 
 /// What the command line asks for.
@@ -228,11 +240,13 @@ fn unguarded(word: &str) -> &str {
     word.strip_prefix(' ').unwrap_or(word)
 }
 
-// Sets the options that the matches have.
+// Sets the options that the matches have. The option `--clean` comes first, because it decides which values others can
+// have.
 fn set_options<'a>(
     options: &mut Options<'a, Global>,
     matches: &ArgMatches<'a>,
 ) -> Result<(), InputError<OptionError<'a>>> {
+    options.is_cleaning = matches.get_flag("clean");
     for setting in Setting::ALL {
         let Some(values) = matches.get_strs(setting.name()) else {
             continue;

@@ -83,7 +83,12 @@ fn no_memory(_error: AllocError) -> ErrorKind {
 // Sends the line of the words, or those of the input if there are no words. Returns the exit status.
 fn send(rt: &HostRuntime, arguments: &Arguments<'_>) -> ExitCode {
     let options = &arguments.options;
-    let tags = match Environment::read_tags(rt) {
+    let read = if options.is_cleaning {
+        Environment::read_tags_to_clean(rt)
+    } else {
+        Environment::read_tags(rt)
+    };
+    let tags = match read {
         Ok(tags) => tags,
         Err(error) => return exit_without_environment(rt, error),
     };

@@ -1,7 +1,6 @@
 //! Makes the call of a row: each call of a client, with each type of its value, in each way to send it.
 use crate::clients::Client;
 use crate::rows::{duration, durations, number, numbers, unreadable};
-use cadence::MetricBuilder;
 use cadence::decimal::Decimal;
 use cadence::ext::{
     ToCounterValue, ToDistributionValue, ToGaugeValue, ToHistogramValue, ToMeterValue, ToSetValue,
@@ -9,6 +8,7 @@ use cadence::ext::{
 };
 use cadence::prelude::*;
 use cadence::types::{Metric, MetricResult};
+use cadence::{Chance, MetricBuilder};
 use std::alloc::Global;
 use std::sync::Wait;
 
@@ -61,6 +61,13 @@ fn choose<'a, T: Metric + From<String>, R: Wait + Clone + Drop>(
     }
 }
 
+// Reads a chance, a slash and the number that is drawn.
+fn sample_of(text: &str) -> Option<(Chance, u64)> {
+    let (chance, draw) = text.split_once('/')?;
+    let chance = Chance::new(chance.parse::<Decimal>().ok()?)?;
+    Some((chance, draw.parse::<u64>().ok()?))
+}
+
 // Drops the metric that was sent.
 fn end<T: Drop>(sent: MetricResult<T>) -> MetricResult<()> {
     sent?;
@@ -68,21 +75,54 @@ fn end<T: Drop>(sent: MetricResult<T>) -> MetricResult<()> {
 }
 
 impl<'a, R: Wait + Clone + Drop> Call<'a, R> {
+    // Sends the metric, or a sample of it.
+    fn finish<T: Metric + From<String> + Drop>(
+        &self,
+        builder: Builder<'a, T, R>,
+        sample: Option<(Chance, u64)>,
+    ) -> MetricResult<()> {
+        match (self.way, sample) {
+            (Way::Send, None) => builder.send(),
+            (Way::Send, Some((chance, draw))) => builder.send_sampled(chance, draw),
+            (_, None) => return end(builder.try_send()),
+            (_, Some((chance, draw))) => return end(builder.try_send_sampled(chance, draw)),
+        }
+        Ok(())
+    }
+
+    // Returns the chance and the number drawn of the option `sample`, if the row has it.
+    fn sample(&self) -> Option<(Chance, u64)> {
+        for pair in self.options.chunks(2) {
+            if let [name, text] = pair {
+                if name.as_str() == "sample" {
+                    return sample_of(text);
+                }
+            }
+        }
+        None
+    }
+
+    // Adds the options other than `sample`.
+    fn choose_all<T: Metric + From<String> + Drop>(
+        &self,
+        mut builder: Builder<'a, T, R>,
+    ) -> Builder<'a, T, R> {
+        for pair in self.options.chunks(2) {
+            if let [name, text] = pair {
+                if name.as_str() != "sample" {
+                    builder = choose(builder, name, text);
+                }
+            }
+        }
+        builder
+    }
+
     // Adds the options, and sends the metric.
     fn send<T: Metric + From<String> + Drop>(
         &self,
-        mut builder: Builder<'a, T, R>,
+        builder: Builder<'a, T, R>,
     ) -> MetricResult<()> {
-        for pair in self.options.chunks(2) {
-            if let [name, text] = pair {
-                builder = choose(builder, name, text);
-            }
-        }
-        if self.way == Way::Send {
-            builder.send();
-            return Ok(());
-        }
-        end(builder.try_send())
+        self.finish(self.choose_all(builder), self.sample())
     }
 
     fn count<T: ToCounterValue<Global>>(&self, value: T) -> MetricResult<()> {
@@ -132,6 +172,32 @@ impl<'a, R: Wait + Clone + Drop> Call<'a, R> {
             Way::Plain => end(self.client.set(self.key, value)),
             _ => self.send(self.client.set_with_tags(self.key, value)),
         }
+    }
+
+    fn set_text(&self) -> MetricResult<()> {
+        match self.way {
+            Way::Plain => end(self.client.set_text(self.key, self.value)),
+            _ => self.send(self.client.set_text_with_tags(self.key, self.value)),
+        }
+    }
+
+    fn change(&self, by: Decimal) -> MetricResult<()> {
+        match self.way {
+            Way::Plain => end(self.client.change(self.key, by)),
+            _ => self.send(self.client.change_with_tags(self.key, by)),
+        }
+    }
+
+    fn level(&self, value: Decimal) -> MetricResult<()> {
+        if self.way == Way::Plain {
+            return end(self.client.level(self.key, value));
+        }
+        let line = self.client.gauge_with_tags(self.key, value);
+        if value.mantissa() >= 0 {
+            return self.send(line);
+        }
+        let zero = self.choose_all(self.client.gauge_with_tags(self.key, 0u64));
+        end(zero.try_send_before(self.choose_all(line)))
     }
 
     fn incr(&self) -> MetricResult<()> {
@@ -195,8 +261,11 @@ impl<'a, R: Wait + Clone + Drop> Call<'a, R> {
             "count/u32" => self.count(number::<u32>(self.value)?),
             "gauge/u64" => self.gauge(number::<u64>(self.value)?),
             "gauge/decimal" => self.gauge(number::<Decimal>(self.value)?),
+            "level/decimal" => self.level(number::<Decimal>(self.value)?),
             "meter/u64" => self.meter(number::<u64>(self.value)?),
+            "change/decimal" => self.change(number::<Decimal>(self.value)?),
             "set/i64" => self.set(number::<i64>(self.value)?),
+            "set/text" => self.set_text(),
             _ => self.make_timer(),
         }
     }

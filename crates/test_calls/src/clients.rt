@@ -36,12 +36,13 @@ struct Watched<R: Wait + Clone + Drop> {
     errors: SpyReceiver<R>,
 }
 
-// Adds a setting: `tag K=V`, `tag V`, `container ID` or `strict texts`.
+// Adds a setting: `tag K=V`, `tag V`, `container ID`, `strict texts` or `cleaned texts`.
 fn choose<R: Wait + Clone + Drop>(builder: Builder<R>, name: &str, text: &str) -> Builder<R> {
     match (name, text.split_once('=')) {
         ("tag", Some((key, text))) => builder.with_tag(key, text),
         ("container", _) => builder.with_container_id(text),
         ("strict", _) => builder.with_strict_texts(),
+        ("cleaned", _) => builder.with_cleaned_texts(),
         _ => builder.with_tag_value(text),
     }
 }
@@ -82,13 +83,14 @@ fn make_watched<R: Wait + Clone + Drop>(
 
 impl<R: Wait + Clone + Drop> Watched<R> {
     // Returns whether just this line came. If the wanted text begins with the word `refused`, just one error has to
-    // have come instead, whose text follows that word.
+    // have come instead, whose text follows that word. If it is the word `nothing`, neither may have come.
     fn has_got(&self, wanted: &[u8]) -> bool {
         let is_wanted = match (self.lines.try_recv(), self.errors.try_recv()) {
             (Some(line), None) => line.as_slice() == wanted,
             (None, Some(error)) => {
                 wanted.strip_prefix("refused ".as_bytes()) == Some(error.as_slice())
             }
+            (None, None) => wanted == "nothing".as_bytes(),
             _ => false,
         };
         is_wanted && self.lines.is_empty() && self.errors.is_empty()

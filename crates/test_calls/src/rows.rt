@@ -58,8 +58,8 @@ pub fn unescaped(alloc: Global, text: &str) -> MetricResult<Vec<u8>> {
     Ok(bytes)
 }
 
-// Returns the text that a word stands for.
-fn text_of(alloc: Global, word: &str) -> MetricResult<String> {
+/// Returns the text of a word or of a row, in which a backslash begins an escape.
+pub fn text_of(alloc: Global, word: &str) -> MetricResult<String> {
     match String::from_utf8(unescaped(alloc, word)?) {
         Ok(text) => Ok(text),
         Err(_) => Err(unreadable()),

@@ -1,5 +1,5 @@
 //! Adds up the lines of rows, by each of what adds up lines: a sink, a run of steps, and sums without a sink.
-use crate::rows::{is_row, number, unreadable};
+use crate::rows::{is_row, number, text_of, unreadable};
 use cadence::sinks::{MetricSink, SpyMetricSink, SpyReceiver};
 use cadence::types::MetricError;
 use cadence::{MetricResult, Runtime};
@@ -168,9 +168,10 @@ pub fn report<R: Runtime>(rt: &R, alloc: Global, rows: &str) -> MetricResult<Str
         let Some((steps, wanted)) = row.split_once(" ->") else {
             return Err(unreadable());
         };
+        let (steps, wanted) = (text_of(alloc, steps)?, text_of(alloc, wanted)?);
         let is_right = match steps.strip_prefix("key ") {
-            Some(line) => by_key(alloc, line)?.as_str() == wanted,
-            None => is_right(rt, alloc, steps, wanted.trim_start())?,
+            Some(line) => by_key(alloc, line)?.as_str() == wanted.as_str(),
+            None => is_right(rt, alloc, &steps, wanted.trim_start())?,
         };
         count = count.wrapping_add(1);
         if !is_right {

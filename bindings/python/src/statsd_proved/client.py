@@ -68,11 +68,16 @@ class StatsClient(Metrics):
     texts in a set, are packed at once. If the socket refuses packets and `packets` of them wait, a call that would need
     one more keeps no line, and is counted in `bad`.
 
-    If `strict` is set, a call with a colon, a comma, a bar or a newline in its name, in a tag, in the container or in the
-    text of a set is refused with a StatusError of the status SEPARATOR, and no line of it is kept. So no text can make,
-    change or split a metric. Tags with keys are then dicts or pairs, because a text as "page:home" has a colon. The value
-    of such a tag may have colons, as in {"url": "http://x"}, because the first colon of a tag ends its key. The
-    constructor raises this error if the prefix, a tag or the container of the client has such a character.
+    If `strict` is set, a call with a colon, a comma, a bar or a newline in its name, in a tag or in the container is
+    refused with a StatusError of the status SEPARATOR, and no line of it is kept. So no text can make, change or split a
+    metric. Tags with keys are then dicts or pairs, because a text as "page:home" has a colon. The value of such a tag may
+    have colons, as in {"url": "http://x"}, because the first colon of a tag ends its key. The constructor raises this error
+    if the prefix, a tag or the container of the client has such a character.
+
+    If `clean` is set, no call is refused for such a character: each of them in a name, in a tag or in a container is sent as
+    an underscore, also in the prefix, the tags and the container of the client. The value of a tag keeps its colons: that of
+    a dict or a pair, and of a text such as "page:home" what comes after its first colon. The text of a set, an event and a
+    service check are not cleaned: they are refused as before. The constructor raises a ValueError if `strict` is set too.
 
     If `telemetry` is a prefix, the client sends its own counts: a flush first keeps a counter for each of `packets_sent`,
     `packets_dropped`, `packets_refused` and `lines_refused` (`sent`, `dropped`, `refused` and `bad` of `counts`) that has
@@ -83,14 +88,16 @@ class StatsClient(Metrics):
     def __init__(self, host: str = "localhost", port: int = 8125, prefix: str | None = None, maxudpsize: int = 512,
                  ipv6: bool = False, *, tags: Tags | None = None, container: str | None = None, packets: int = 64,
                  flush_every: float | None = 1.0, on_error: Callable[[Exception], object] | None = None,
-                 raises: bool = False, strict: bool = False, aggregate: bool = False, telemetry: str | None = None,
-                 telemetry_min_flush_interval: float = 10.0) -> None:
+                 raises: bool = False, strict: bool = False, clean: bool = False, aggregate: bool = False,
+                 telemetry: str | None = None, telemetry_min_flush_interval: float = 10.0) -> None:
+        if strict and clean:
+            raise ValueError("a client is strict or cleans texts, and not both")
         tags = list(tags.items()) if isinstance(tags, Mapping) else tags
-        self._settings = (prefix.rstrip(".") + "." if prefix else "", maxudpsize, packets, strict, tags, container)
+        self._settings = (prefix.rstrip(".") + "." if prefix else "", maxudpsize, packets, strict, clean, tags, container)
         self._packer = Packer(*self._settings, aggregate)
         self._telemetry = None
         if telemetry is not None:
-            self._telemetry = Telemetry(telemetry, telemetry_min_flush_interval, strict, tags, container)
+            self._telemetry = Telemetry(telemetry, telemetry_min_flush_interval, strict, clean, tags, container)
         self._adds_up = aggregate
         self._flush_every = flusher.period(flush_every)
         self._at_once = flush_every == 0
@@ -111,7 +118,7 @@ class StatsClient(Metrics):
                          maxudpsize: int | None = None, ipv6: bool = False, tags: Tags | None = None,
                          container: str | None = None, packets: int = 64, flush_every: float | None = 1.0,
                          on_error: Callable[[Exception], object] | None = None, raises: bool = False, strict: bool = False,
-                         aggregate: bool = False, telemetry: str | None = None,
+                         clean: bool = False, aggregate: bool = False, telemetry: str | None = None,
                          telemetry_min_flush_interval: float = 10.0, origin_detection: bool | None = None) -> Self:
         """Makes a client that sends to the address and has the tags of the variables of the environment. An empty variable
         counts as not set, and a variable that another one overrides isn't read.
@@ -146,7 +153,7 @@ class StatsClient(Metrics):
             container = environment.container(os.environb, origin_detection)
         return cls(host="localhost" if host is None else host, port=8125 if port is None else port, prefix=prefix,
                    maxudpsize=1432 if maxudpsize is None else maxudpsize, ipv6=ipv6, tags=tags, container=container,
-                   packets=packets, flush_every=flush_every, on_error=on_error, raises=raises, strict=strict,
+                   packets=packets, flush_every=flush_every, on_error=on_error, raises=raises, strict=strict, clean=clean,
                    aggregate=aggregate, telemetry=telemetry,
                    telemetry_min_flush_interval=telemetry_min_flush_interval)
 

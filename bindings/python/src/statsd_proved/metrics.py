@@ -79,8 +79,8 @@ class Metrics(abc.ABC):
 
     def set(self, stat: str, value: Number | str, rate: float = 1, *, tags: Tags | None = None,
             container: str | None = None, timestamp: float | None = None) -> None:
-        """Adds a value, which may be a text, to a set. A text is printed as it is, with any separators in it, unless the
-        client is strict."""
+        """Adds a value, which may be a text, to a set. A text that is empty, or has a colon, a bar or a newline, is refused,
+        because each of these would end it in the line."""
         self._keep(SET, PLAIN, stat, value, rate, tags, container, timestamp)
 
     def timing(self, stat: str, delta: Number | datetime.timedelta | Numbers | Several[datetime.timedelta], rate: float = 1, *,

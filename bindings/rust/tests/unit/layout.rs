@@ -20,7 +20,8 @@ fn layouts_are_those_of_the_header() {
         layout!("handle" Handle: at open),
         layout!("sums" Handle: at open),
         layout!("tag" Tag<'_>: key.at key.len text.at text.len keyed),
-        layout!("settings" Settings<'_>: prefix.at prefix.len tags.at tags.len container.at container.len contained strict),
+        layout!("settings" Settings<'_>: prefix.at prefix.len tags.at tags.len container.at container.len contained strict
+            cleaned),
         layout!("decimal" Decimal: mantissa places),
         layout!("options" Options<'_>: tags.at tags.len container.at container.len rate time contained rated timed known),
         layout!("event" EventData<'_>: title.at title.len text.at text.len host.at host.len key.at key.len source.at source.len

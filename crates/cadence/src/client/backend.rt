@@ -1,11 +1,13 @@
 //! The traits of what sends a metric, and the functions that send a metric or begin its draft.
+ghost use Rattle.std.specs.Prelude.{None, Some};
+ghost use Rattle.cadence_text.specs.TextValue.{IsFitValue, value_kind, value_text};
 ghost use Rattle.cadence_value.specs.Values.{Converts};
-ghost use Rattle.cadence.specs.Sending.{StartsPlain};
+ghost use Rattle.cadence.specs.Sending.{StartsPlain, StartsValue};
 
 use crate::types::Metric;
 use cadence_errors::{MetricError, MetricResult, SinkError};
-use cadence_settings::ClientSettings;
-use cadence_text::line::{DraftLine, MetricType};
+use cadence_settings::{ClientSettings, TextError, UnfitText, text_is_free};
+use cadence_text::line::{DraftLine, MetricType, TextValue};
 use cadence_value::value::MetricValue;
 use std::alloc::Allocator;
 
@@ -40,6 +42,11 @@ pub trait MetricBackend: Sealed {
         ensures strict { result ≡ (settings self.now).strict }
         ensures clear { IsTrue result → IsTrue (is_clear_settings (settings self.now)) };
 
+    /// Returns whether the client sends an underscore in place of each separator in a key, a tag or a container, other than
+    /// a colon after the key of a tag. `send_metric` sends any text.
+    fn is_cleaned(&self) -> bool
+        ensures { result ≡ (settings self.now).cleaned };
+
     /// Gives an error to the handler, or drops it if the client has no handler.
     fn consume_error(&self, err: MetricError);
 }
@@ -54,7 +61,8 @@ pub trait CallBackend: MetricBackend {
         ensures { result.now ≡ Self.settings self.now };
 }
 
-// Drafts the line of a call without options, or returns the error of its value.
+// Drafts the line of a call without options whose value has numbers, or returns the error of its value.
+#[tactic(auto, unfolding(cadence_settings::specs::Call::metric_of_call))]
 pub(crate) fn draft<'a, C: CallBackend>(
     client: &'a C,
     key: &str,
@@ -69,4 +77,28 @@ pub(crate) fn draft<'a, C: CallBackend>(
         Ok(value) => Ok(settings.draft(key, kind, value)?),
         Err(error) => Err(settings.value_error(key, error)),
     }
+}
+
+// Drafts the line of a call without options whose value is a text, or returns the error of its key or its value.
+#[tactic(auto, unfolding(cadence_settings::specs::Call::metric_of_call))]
+pub(crate) fn text_draft<'a, C: CallBackend>(
+    client: &'a C,
+    key: &str,
+    value: &TextValue<'_>,
+) -> MetricResult<DraftLine<'a, C::Memory>>
+    ensures fit { IsFitValue value.now → StartsValue (C.settings client.now)
+        (value_kind value.now) key.now (Some (value_text value.now)) result }
+    ensures other { (IsFitValue value.now → ⊥) → StartsValue (C.settings client.now)
+        (value_kind value.now) key.now None result }
+{
+    // Before memory is taken, so that the texts alone decide.
+    if client.is_strict() && !text_is_free(key) {
+        return Err(MetricError::from(TextError::Unusable(UnfitText::Key)));
+    }
+    if !value.is_fit() {
+        return Err(MetricError::from(TextError::Unusable(UnfitText::Member)));
+    }
+    let settings = client.client_settings();
+    let buffer = Vec::new(settings.empty_tags()?.allocator().clone()?);
+    Ok(settings.text_draft(buffer, key, value)?)
 }

@@ -1,12 +1,10 @@
-//! A metric that is being built.
+//! A metric that is being built, and its options. `sending` has the calls that send it.
 ghost use Rattle.std.specs.Option.{option_copied};
 ghost use Rattle.std.specs.Prelude.{◌≡◌, false, true, IfErr, IsErr};
 ghost use Rattle.cadence_errors.specs.InputErrors.{IsSame};
-ghost use Rattle.cadence_text.specs.Draft.{draft_line};
 ghost use Rattle.cadence_settings.specs.Call.{tagged, contained, timed, rated};
 ghost use Rattle.cadence_text.specs.Metric.{keyed, unkeyed};
-ghost use Rattle.cadence.specs.Sending.{AppliesOption, StandsForMore};
-ghost use Rattle.cadence.specs.Sending.{HasSentCall, SendsPending, IsMadeFrom, SendsLine};
+ghost use Rattle.cadence.specs.Sending.{AppliesOption, StandsForMore, choice_for};
 
 use crate::client::backend::MetricBackend;
 use crate::client::statsd_client::StatsdClient;
@@ -17,33 +15,6 @@ use cadence_settings::{DraftError, Separator, tag_is_clear, text_is_free};
 use cadence_text::line::{DraftLine, Tag};
 use cadence_value::decimal::Decimal;
 use std::marker::PhantomData;
-
-// A line, as a metric that can be sent.
-#[derive(Clone, Copy)]
-pub(super) struct Line<'a> {
-    pub(super) text: &'a str,
-}
-
-impl Metric for Line<'_> {
-    ghost metric_text = { λ line. line.text.now };
-
-    fn as_metric_str(&self) -> &str {
-        self.text
-    }
-}
-
-// Sends the line of a draft, and returns what is made from its text.
-fn send_line<C: MetricBackend, T: From<String<C::Memory>>>(
-    client: &C,
-    draft: DraftLine<'_, C::Memory>,
-) -> MetricResult<T>
-    ensures { SendsLine (C.line_may_get client.now) (IsMadeFrom T.from_gives)
-        (draft_line draft.entry) result }
-{
-    let text = draft.into_text()?;
-    client.send_metric(&Line { text: &text })?;
-    Ok(T::from(text))
-}
 
 /// A metric that is being built. It stores the draft of the metric's line, or the first error of the call; after an
 /// error the options change nothing. A builder has to be sent: code that drops one doesn't compile.
@@ -62,9 +33,9 @@ pub struct MetricBuilder<
     T: Metric + From<String<C::Memory>>,
     C: MetricBackend = StatsdClient,
 > {
-    draft: MetricResult<DraftLine<'m, C::Memory>>,
-    client: &'c C,
-    _of: PhantomData<T>,
+    pub(super) draft: MetricResult<DraftLine<'m, C::Memory>>,
+    pub(super) client: &'c C,
+    pub(super) _of: PhantomData<T>,
 }
 
 // Each option calls `choosing_stands_for_more`, a law that only the proof needs. The call compiles to no code.
@@ -108,7 +79,8 @@ impl<'m, 'c, T: Metric + From<String<C::Memory>>, C: MetricBackend> MetricBuilde
         if self.client.is_strict() && !tag_is_clear(key, text) {
             return self.fail(DraftError::Unusable(Separator));
         }
-        if draft.add_tag(Tag { key, text }).is_err() {
+        let tag = Tag { key, text };
+        if draft.add_tag_as(tag, self.client.is_cleaned()).is_err() {
             self.fail(DraftError::OutOfMemory);
         }
     }
@@ -122,7 +94,7 @@ impl<'m, 'c, T: Metric + From<String<C::Memory>>, C: MetricBackend> MetricBuilde
         let allowed = !self.client.is_strict() || text_is_free(container_id);
         if let Ok(draft) = &mut self.draft {
             if allowed {
-                draft.set_container(container_id);
+                draft.set_container_as(container_id, self.client.is_cleaned());
             } else {
                 self.fail(DraftError::Unusable(Separator));
             }
@@ -152,14 +124,16 @@ impl<'m, 'c, T: Metric + From<String<C::Memory>>, C: MetricBackend> MetricBuilde
     }
 
     /// Adds a tag with a key, after the default tags and the earlier ones. `try_send` returns an error if memory runs out,
-    /// or a strict client finds a separator in the key, or one other than a colon in the value.
+    /// or a strict client finds a separator in the key, or one other than a colon in the value. A client that cleans texts
+    /// sends an underscore in place of each of these.
     // Without this hint a call of `bench count_tags` takes 133 instructions more.
     #[inline(always)]
     pub fn with_tag(mut self, key: &'m str, value: &'m str) -> Self
         ensures pending { AppliesOption (C.settings (backend_of self.entry)) true
             (pending_of self.entry) (tagged (keyed key.now value.now)) (pending_of result) }
         ensures call { StandsForMore (pending_of self.entry)
-            (tagged (keyed key.now value.now)) (pending_of result) }
+            (choice_for (C.settings (backend_of self.entry)) (tagged (keyed key.now value.now)))
+            (pending_of result) }
         ensures client { backend_of result ≡ backend_of self.entry }
     {
         choosing_stands_for_more();
@@ -172,7 +146,8 @@ impl<'m, 'c, T: Metric + From<String<C::Memory>>, C: MetricBackend> MetricBuilde
         ensures pending { AppliesOption (C.settings (backend_of self.entry)) true
             (pending_of self.entry) (tagged (unkeyed value.now)) (pending_of result) }
         ensures call { StandsForMore (pending_of self.entry)
-            (tagged (unkeyed value.now)) (pending_of result) }
+            (choice_for (C.settings (backend_of self.entry)) (tagged (unkeyed value.now)))
+            (pending_of result) }
         ensures client { backend_of result ≡ backend_of self.entry }
     {
         choosing_stands_for_more();
@@ -181,12 +156,13 @@ impl<'m, 'c, T: Metric + From<String<C::Memory>>, C: MetricBackend> MetricBuilde
     }
 
     /// Sets the container, in place of the default one or an earlier one. `try_send` returns an error if a strict client
-    /// finds a separator in it.
+    /// finds a separator in it. A client that cleans texts sends an underscore in place of each.
     pub fn with_container_id(mut self, container_id: &'m str) -> Self
         ensures pending { AppliesOption (C.settings (backend_of self.entry)) false
             (pending_of self.entry) (contained container_id.now) (pending_of result) }
         ensures call { StandsForMore (pending_of self.entry)
-            (contained container_id.now) (pending_of result) }
+            (choice_for (C.settings (backend_of self.entry)) (contained container_id.now))
+            (pending_of result) }
         ensures client { backend_of result ≡ backend_of self.entry }
     {
         choosing_stands_for_more();
@@ -207,8 +183,8 @@ impl<'m, 'c, T: Metric + From<String<C::Memory>>, C: MetricBackend> MetricBuilde
     }
 
     /// Sets the sampling rate, in place of an earlier one: the share of events for which the caller makes a call, for
-    /// example 0.1. The server scales by it. The client doesn't sample: it sends every call, and it doesn't check that
-    /// the rate is between 0 and 1.
+    /// example 0.1. The server scales by it. The client sends every call, and doesn't check that the rate is between 0
+    /// and 1; `try_send_sampled` makes the choice itself.
     pub fn with_sampling_rate(mut self, rate: Decimal) -> Self
         ensures pending { AppliesOption (C.settings (backend_of self.entry)) false
             (pending_of self.entry) (rated rate) (pending_of result) }
@@ -218,38 +194,5 @@ impl<'m, 'c, T: Metric + From<String<C::Memory>>, C: MetricBackend> MetricBuilde
         choosing_stands_for_more();
         self.set_rate(rate);
         self
-    }
-
-    /// Sends the metric's line, and returns a metric with this text.
-    ///
-    /// If the builder keeps an error, it returns this error and doesn't call the sink: the kind is `InvalidInput` if
-    /// the value had no numbers or a strict client found a separator in a text, and `OutOfMemory` if memory ran out.
-    /// Otherwise the error is the sink's, as `MetricError::Sink`, or has the kind `OutOfMemory`.
-    // Without this hint a call of `bench count_tags` takes 7 instructions more.
-    #[inline(always)]
-    pub fn try_send(self) -> MetricResult<T>
-        ensures answers { SendsPending (C.line_may_get (backend_of self.entry))
-            (IsMadeFrom T.from_gives) (pending_of self.entry) result }
-        ensures line { HasSentCall (C.line_may_get (backend_of self.entry))
-            (IsMadeFrom T.from_gives) (pending_of self.entry) result }
-    {
-        let MetricBuilder { draft, client, _of } = self;
-        match draft {
-            Ok(draft) => send_line(client, draft),
-            Err(e) => Err(e),
-        }
-    }
-
-    /// Sends the metric's line, and gives an error to the client's handler. The errors are those of `try_send`. If the
-    /// client has no handler, the error is dropped.
-    pub fn send(self) {
-        let MetricBuilder { draft, client, _of } = self;
-        let sent = match draft {
-            Ok(draft) => send_line::<C, String<C::Memory>>(client, draft),
-            Err(e) => Err(e),
-        };
-        if let Err(e) = sent {
-            client.consume_error(e);
-        }
     }
 }

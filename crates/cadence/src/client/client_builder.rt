@@ -1,9 +1,9 @@
 //! The builder of a client, and the client's constructors.
-ghost use Rattle.std.specs.Prelude.{◌≡◌, Err, IfErr, IfOk};
+ghost use Rattle.std.specs.Prelude.{◌≡◌, Err, IfErr, IfOk, true};
 ghost use Rattle.std.specs.Option.{option_copied};
 ghost use Rattle.cadence_errors.specs.Errors.{Makes, MayOnlyRunOutOfMemory};
 ghost use Rattle.cadence_text.specs.Metric.{keyed, unkeyed};
-ghost use Rattle.cadence_settings.specs.Settings.{allows_text, is_clear_settings, with_default_container, with_strict_texts};
+ghost use Rattle.cadence_settings.specs.Settings.{allows_text, is_clear_settings, with_cleaned_texts, with_default_container, with_strict_texts};
 
 use crate::client::handler::{BoxedErrorHandler, BoxedHandler, ErrorHandler, NopErrorHandler};
 use crate::client::statsd_client::{BoxedSink, StatsdClient};
@@ -112,6 +112,21 @@ impl<A: Allocator + Clone, S: MetricSink, H: ErrorHandler> StatsdClientBuilder<A
     {
         if let Ok(settings) = &mut self.settings {
             if let Err(error) = settings.set_strict() {
+                self.settings = Err(error);
+            }
+        }
+        self
+    }
+
+    /// Makes a client that cleans texts, in place of a strict one: it sends an underscore in place of each colon, comma, bar
+    /// and newline in a key, a tag or a container, so that no text of a call can make or change another metric. Colons
+    /// stay in the text of a tag with a key, as in `url:http://x`, because the first colon ends the key. The prefix and the
+    /// defaults are cleaned too. The text of `send_metric` is sent as it is, and a member of a set is never cleaned.
+    pub fn with_cleaned_texts(mut self) -> Self
+        ensures { AddsDefault (λ _. true) with_cleaned_texts self result }
+    {
+        if let Ok(settings) = &mut self.settings {
+            if let Err(error) = settings.set_cleaned() {
                 self.settings = Err(error);
             }
         }

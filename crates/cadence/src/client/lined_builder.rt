@@ -6,7 +6,7 @@ ghost use Rattle.cadence.specs.Events.{AddsTag, IsBegun, SendsBuilt, with_common
 ghost use Rattle.cadence.specs.Shown.{built};
 
 use crate::client::backend::{CallBackend, MetricBackend};
-use crate::client::builder::Line;
+use crate::client::sending::Line;
 use crate::client::statsd_client::StatsdClient;
 use cadence_errors::{MetricError, MetricResult};
 use cadence_events::{Common, LineError, Lined, line_with};

@@ -1,6 +1,7 @@
 //! The traits of all metrics as one bound.
 
 use crate::client::backend::MetricBackend;
+use crate::client::text_traits::{GaugedExt, SettedExt};
 use crate::client::traits::{
     Counted, CountedExt, Distributed, Gauged, Histogrammed, Metered, Setted, Timed,
 };
@@ -17,6 +18,8 @@ use std::time::Duration;
 /// client.histogram("latency", Duration::from_micros(83))?;
 /// client.distribution("payload", 1500)?;
 /// client.set("users", 4711)?;
+/// client.set_text("users", "alice")?;
+/// client.change("load", Decimal::new(3, 0)?)?;
 /// ```
 pub trait MetricClient: MetricBackend
     + Counted<i64>
@@ -41,7 +44,9 @@ pub trait MetricClient: MetricBackend
     + Distributed<Decimal>
     + Distributed<Vec<u64, <Self as MetricBackend>::Memory>>
     + Distributed<Vec<Decimal, <Self as MetricBackend>::Memory>>
-    + Setted<i64> {}
+    + Setted<i64>
+    + SettedExt
+    + GaugedExt {}
 
 // The bounds are repeated here, because the checker finds no impl of such a trait for a type parameter.
 impl<C> MetricClient for C
@@ -69,5 +74,7 @@ where
         + Distributed<Decimal>
         + Distributed<Vec<u64, <C as MetricBackend>::Memory>>
         + Distributed<Vec<Decimal, <C as MetricBackend>::Memory>>
-        + Setted<i64>,
+        + Setted<i64>
+        + SettedExt
+        + GaugedExt,
 {}

@@ -54,6 +54,7 @@ impl<A: Allocator + Clone, S: MetricSink, H: ErrorHandler> StatsdClient<A, S, H>
 
     // Sends the line of a call without options, and returns the metric. It makes no builder and has no function between,
     // because each would copy the wide result once more.
+    #[tactic(auto, unfolding(cadence_settings::specs::Call::metric_of_call, cadence_text::specs::Line::line_of))]
     pub(crate) fn send_plain<K: MetricKind>(
         &self,
         key: &str,
@@ -89,6 +90,10 @@ impl<A: Allocator + Clone, S: MetricSink, H: ErrorHandler> MetricBackend for Sta
 
     fn is_strict(&self) -> bool {
         self.settings.is_strict()
+    }
+
+    fn is_cleaned(&self) -> bool {
+        self.settings.is_cleaned()
     }
 
     fn consume_error(&self, err: MetricError) {

@@ -1,4 +1,5 @@
 //! Calls by keys, which make no line.
+ghost use Rattle.std.specs.Option.{ok_or};
 ghost use Rattle.std.specs.Prelude.{◌≡◌, ◌++◌, ◌∷◌, [], OnErr, OnOk};
 
 use super::RecordedAggregator;
@@ -9,7 +10,7 @@ use cadence_stage::LinelessCall;
 
 impl<S: MetricSink> RecordedAggregator<S> {
     ghost use Rattle.cadence_aggregating.specs.Calls.{line_of_keyed};
-    ghost use Rattle.cadence_aggregating.specs.Causes.{HasCountedCause};
+    ghost use Rattle.cadence_aggregating.specs.Causes.{HasCause};
     ghost use Rattle.cadence_aggregating.specs.Quiet.{IsQuiet};
     ghost use Rattle.cadence_aggregating.specs.Recorded.{lines_accepted, aggregator_of, limits_of, refusals_by, lines_taken};
 
@@ -17,20 +18,20 @@ impl<S: MetricSink> RecordedAggregator<S> {
     /// on at once.
     ///
     /// # Errors
-    /// The error of the sink, if it refused a line that had to be sent, and `OutOfMemory`. After an error the call did
-    /// nothing, and what was held is sent or still held.
-    fn call(&mut self, call: KeyedCall<'_>) -> Result<(), SinkError>
-        ensures ok { OnOk result (lines_accepted self.new
+    /// The error of the sink, if it refused a line that had to be sent, and `OutOfMemory`. After an error the result is
+    /// `None` and `fault` has the error. The call did nothing then, and what was held is sent or still held.
+    fn call(&mut self, call: KeyedCall<'_>, fault: &mut SinkError) -> Option<()>
+        ensures ok { OnOk (ok_or result fault.new) (lines_accepted self.new
             ≡ lines_accepted self.old ++ line_of_keyed call.entry ∷ []) }
-        ensures err { OnErr result (lines_accepted self.new ≡ lines_accepted self.old) }
-        ensures quiet { OnOk result (∥ IsQuiet (limits_of self.old) (aggregator_of self.old)
+        ensures err { OnErr (ok_or result fault.new)
+            (lines_accepted self.new ≡ lines_accepted self.old) }
+        ensures quiet { OnOk (ok_or result fault.new)
+            (∥ IsQuiet (limits_of self.old) (aggregator_of self.old)
             (line_of_keyed call.entry) (lines_taken self.old) (lines_taken self.new) ∥₁) }
-        ensures refused { HasCountedCause (refusals_by self.old) (refusals_by self.new) result }
+        ensures refused { HasCause (refusals_by self.old) (ok_or result fault.new)
+            (refusals_by self.new) }
     {
-        match self.sums.call(&mut self.printer, call) {
-            Ok(()) => Ok(()),
-            Err(fault) => Err(self.error_of(fault)),
-        }
+        self.sums.call(&mut self.printer, call, fault)
     }
 }
 
@@ -41,12 +42,7 @@ impl<'a, S: MetricSink> LinelessCall<RecordedAggregator<S>> for KeyedCall<'a> {
     ghost counts_as = { λ call. line_of_keyed call };
 
     fn make(self, stage: &mut RecordedAggregator<S>, fault: &mut SinkError) -> Option<usize> {
-        match stage.call(self) {
-            Ok(()) => Some(0),
-            Err(error) => {
-                *fault = error;
-                None
-            }
-        }
+        stage.call(self, fault)?;
+        Some(0)
     }
 }

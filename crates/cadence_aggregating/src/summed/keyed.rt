@@ -4,6 +4,7 @@ ghost use Rattle.std.specs.Prelude.{◌≡◌, ◌++◌, ◌∷◌, [], OnErr, O
 use super::SummedLines;
 use crate::call::KeyedCall;
 use crate::keys::{CounterKey, GaugeKey};
+use cadence_errors::SinkError;
 use std::alloc::AllocError;
 
 impl SummedLines {
@@ -21,9 +22,10 @@ impl SummedLines {
         ensures quiet { OnOk result (AddsQuietly self.old (line_of_keyed call.entry)
             (waiting_in self.old) (waiting_in self.new)) }
     {
-        match self.sums.call(&mut self.waiting, call) {
-            Ok(()) => Ok(()),
-            Err(_fault) => Err(AllocError),
+        let mut fault = SinkError::NothingWritten;
+        match self.sums.call(&mut self.waiting, call, &mut fault) {
+            Some(()) => Ok(()),
+            None => Err(AllocError),
         }
     }
 

@@ -1,11 +1,12 @@
 //! Calls by keys, which make no line. A call is held if the context of its key fits the limit of a line.
+ghost use Rattle.std.specs.Option.{ok_or};
 ghost use Rattle.std.specs.Prelude.{◌≡◌, ◌++◌, ◌∷◌, [], OnErr, OnOk};
-ghost use Rattle.cadence_aggregate.specs.Refusals.{after_reply};
 
 use super::{Sums, add_or_pass};
 use crate::accepted::Accepted;
 use crate::call::{KeyedCall, context_of, said_by};
-use cadence_aggregate::{Fault, LineSink};
+use cadence_aggregate::{LineSink, out_of_memory};
+use cadence_errors::SinkError;
 
 impl Sums {
     ghost use Rattle.cadence_aggregating.specs.Calls.{line_of_keyed};
@@ -21,22 +22,25 @@ impl Sums {
         &mut self,
         sink: &mut S,
         call: KeyedCall<'_>,
-    ) -> Result<(), Fault>
-        ensures ok { OnOk result (accepted_by self.new
+        fault: &mut SinkError,
+    ) -> Option<()>
+        ensures ok { OnOk (ok_or result fault.new) (accepted_by self.new
             ≡ accepted_by self.old ++ line_of_keyed call.entry ∷ []) }
-        ensures err { OnErr result (accepted_by self.new ≡ accepted_by self.old) }
+        ensures err { OnErr (ok_or result fault.new) (accepted_by self.new ≡ accepted_by self.old) }
         ensures summary { KeepsSummary self.old self.new (S.sent sink.old) (S.sent sink.new) }
-        ensures quiet { OnOk result (∥ IsQuiet (limits_of self.old) (aggregator_of self.old)
+        ensures quiet { OnOk (ok_or result fault.new)
+            (∥ IsQuiet (limits_of self.old) (aggregator_of self.old)
             (line_of_keyed call.entry) (S.sent sink.old) (S.sent sink.new) ∥₁) }
-        ensures refused { S.refusals sink.new ≡ after_reply (S.refusals sink.old) result }
-        ensures leads { S.leads sink.old sink.new }
+        ensures leads { S.leads sink.old (ok_or result fault.new) sink.new }
         ensures limits { limits_of self.new ≡ limits_of self.old }
     {
         let context = context_of(call);
-        let said = said_by(call, &mut self.context)?;
+        let Ok(said) = said_by(call, &mut self.context) else {
+            return out_of_memory(fault);
+        };
         let is_held = self.limits.holds(&said, context.len());
-        add_or_pass(&mut self.aggregator, sink, said, is_held)?;
+        add_or_pass(&mut self.aggregator, sink, said, is_held, fault)?;
         self.accepted = self.accepted.and(&Accepted::of(said));
-        Ok(())
+        Some(())
     }
 }

@@ -10,7 +10,8 @@ use Rattle.cadence_schedule.specs.Headline.{Given, line_by, HasReplies}
 use Rattle.cadence_schedule.specs.RunHistory.{Turn, accepted, dropped_count, kept, taken_count}
 use Rattle.cadence_schedule.specs.RunOutcome.{outcome_after}
 use Rattle.cadence_schedule.specs.Running.{Runs, queue_state}
-use Rattle.cadence_schedule.specs.Sendings.{Sending, texts_in}
+use Rattle.cadence_stage.specs.Call as stage
+use Rattle.cadence_schedule.specs.Calls.{texts_in}
 use Rattle.cadence_schedule.specs.declared.packing.Packing.{Packing}
 use Rattle.cadence_schedule.specs.declared.running.Running.{Running}
 use Rattle.cadence_schedule.specs.declared.steps.Reply.{Reply}
@@ -37,7 +38,7 @@ pub texts_filled : (counts : List (List ℕ × ℕ)) → AllByRecursion (λ (lin
 texts_filled [] h = tt
 texts_filled (k ∷ counts) (h, hs) = (h, texts_filled counts hs)
 
-module _ {S W A : Type 0} (history_of : W → PacketHistory) (given : Given A) (leads : S → Sending → S → Type 0) (first : S) (run : Running S A)
+module _ {S W A : Type 0} (history_of : W → PacketHistory) (given : Given A) (leads : S → S → stage.Call → Type 0) (first : S) (run : Running S A)
     (packing : Packing (CountingWriter W) A) (replies : Vec Reply A) (one_each : length replies.items ≡ length given.steps) (few : length given.steps < 2 ^ 64)
     (r : Runs leads (line_by given) given.queue given.policy first run (zip given.steps replies.items))
     (causes : AllByRecursion (MayAnswer given.kind given.format) r.given) where

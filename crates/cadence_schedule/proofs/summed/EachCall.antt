@@ -1,6 +1,7 @@
 -- What all calls of the sums before a packer did: to what they hold, and to the packer.
 use Rattle.std.proofs.Common.{◌≡◌, ℕ, List, [], ◌∷◌, ◌++◌, Option, Ok, Err, true, length, refl, sym, ap, ◌∙◌, subst, arith, inl}
 use Rattle.std.specs.List.{AllByRecursion, AllZip}
+use Rattle.std.proofs.lemmas.List.Concat.{flat_map-append}
 use Rattle.std.proofs.lemmas.List.{append-nil, append_assoc, map-append}
 use Rattle.cadence_aggregate.specs.Aggregate.{held}
 use Rattle.cadence_aggregate.specs.Server.{Sample, IsSummary}
@@ -15,11 +16,14 @@ use Rattle.cadence_queue.specs.declared.policy.QueuePolicy.{QueuePolicy}
 use Rattle.cadence_settings.specs.declared.call.Call.{Call}
 use Rattle.cadence_schedule.specs.Asked.{AskAll, Asks, AsksCall}
 use Rattle.cadence_schedule.specs.Leads.{SinkPacks, sent_by}
-use Rattle.cadence_schedule.specs.Joined.{kept_joined}
 use Rattle.cadence_schedule.specs.Led.{packs_joined, packs_none}
 use Rattle.cadence_schedule.specs.Moves.{QueueState, Moves, Goes, given_in}
 use Rattle.cadence_schedule.specs.RunHistory.{Turn}
-use Rattle.cadence_schedule.specs.Sendings.{Sending, AllLead, wrote, flushed, counts_of_kept, texts_in}
+use Rattle.cadence_stage.specs.Call.{Flush, Line}
+use Rattle.cadence_stage.specs.Call as stage
+use Rattle.cadence_stage.specs.Past.{taken_by, taken_in}
+use Rattle.cadence_aggregate.specs.Led.{AllLead}
+use Rattle.cadence_schedule.specs.Calls.{texts_in}
 use Rattle.cadence_schedule.specs.SumsCalls.{SumsCall}
 use Rattle.cadence_schedule.specs.declared.packed_sums.PackedSums.{PackedSums}
 use Rattle.cadence_schedule.specs.declared.steps.Step.TheVariants as step
@@ -33,29 +37,29 @@ past_step accepted lines added sent sent' before after (said, zip, sum) says ste
     (said ++ added, zip_append accepted lines said added zip says, same_trans _ _ _ (same_more said (sent ++ before) added sum) step)
 
 -- The calls, in order, asked all of this.
-abbrev AskEach : List Sending → List Sending → Type 0
+abbrev AskEach : List stage.Call → List stage.Call → Type 0
 AskEach [] all = all ≡ []
-AskEach (call ∷ calls) all = (asked rest : List Sending) × (all ≡ asked ++ rest) × AsksCall call asked × AskEach calls rest
+AskEach (call ∷ calls) all = (asked rest : List stage.Call) × (all ≡ asked ++ rest) × AsksCall call asked × AskEach calls rest
 
-each_joined : (xs ys all : List Sending) → AskEach (xs ++ ys) all → (asked rest : List Sending) × (all ≡ asked ++ rest) × AskEach xs asked × AskEach ys rest
+each_joined : (xs ys all : List stage.Call) → AskEach (xs ++ ys) all → (asked rest : List stage.Call) × (all ≡ asked ++ rest) × AskEach xs asked × AskEach ys rest
 each_joined [] ys all each = ([], all, refl, refl, each)
 each_joined (x ∷ xs) ys all (now, later, are, asks, more) =
     let (asked, rest, split, first, second) = each_joined xs ys later more in
     (now ++ asked, rest, are ∙ ap (λ zs. now ++ zs) split ∙ sym (append_assoc now asked rest), (now, asked, refl, asks, first), second)
 
-only_one : (call : Sending) (all : List Sending) → AskEach (call ∷ []) all → AsksCall call all
+only_one : (call : stage.Call) (all : List stage.Call) → AskEach (call ∷ []) all → AsksCall call all
 only_one call all (asked, rest, are, asks, none) = subst (AsksCall call) (sym (are ∙ ap (λ xs. asked ++ xs) none ∙ append-nil asked)) asks
 
 module _ {A : Type 0} (line_of : Call A → Option (List ℕ)) (queue : Option ℕ) (policy : QueuePolicy) where
-  asks_turn : (old : QueueState) (t : Turn A) (new : QueueState) (all : List Sending) → Moves line_of queue policy old t new
+  asks_turn : (old : QueueState) (t : Turn A) (new : QueueState) (all : List stage.Call) → Moves line_of queue policy old t new
       → AskEach (given_in t old.in_hand) all → Asks t all
   asks_turn old (step.Hand, reply.Handed result) new all ((line, some), same) each =
-      only_one (wrote line result) all (subst (λ hand. AskEach (given_in {A = A} (step.Hand, reply.Handed result) hand) all) some each)
-  asks_turn old (step.Flush, reply.Flushed result) new all same each = only_one (flushed result) all each
+      only_one (Line line result) all (subst (λ hand. AskEach (given_in {A = A} (step.Hand, reply.Handed result) hand) all) some each)
+  asks_turn old (step.Flush, reply.Flushed result) new all same each = only_one (Flush result) all each
   asks_turn old t new all move each = each
 
   -- The steps asked what the calls asked that they made.
-  pub ask_all : (turns : List (Turn A)) (old new : QueueState) (given all : List Sending) → Goes line_of queue policy old turns given new
+  pub ask_all : (turns : List (Turn A)) (old new : QueueState) (given all : List stage.Call) → Goes line_of queue policy old turns given new
       → AskEach given all → AskAll turns all
   ask_all [] old new given all (none, same) each = subst (λ xs. AskEach xs all) none each
   ask_all (t ∷ turns) old new given all (mid, rest, are, first, later) each =
@@ -63,14 +67,14 @@ module _ {A : Type 0} (line_of : Call A → Option (List ℕ)) (queue : Option �
       (asked, others, split, asks_turn old t mid asked first now, ask_all turns mid new rest others later then)
 
 module _ {P A : Type 0} (kind : P → WriterKind) (history : P → PacketHistory) where
-  pub record Summed (first s : PackedSums P A) (accepted : List (List ℕ)) (calls : List Sending) : Type 0 where
-    pub all : List Sending
+  pub record Summed (first s : PackedSums P A) (accepted : List (List ℕ)) (calls : List stage.Call) : Type 0 where
+    pub all : List stage.Call
     pub asked : AskEach calls all
     pub packs : SinkPacks kind history first.sink s.sink all
-    pub past : SumsUp (accepted ++ texts_in (counts_of_kept calls)) (sent_by s.sink) (held s.lines.aggregator)
+    pub past : SumsUp (accepted ++ texts_in (taken_in calls)) (sent_by s.sink) (held s.lines.aggregator)
 
   -- All calls keep that what was sent and what is held is a summary of the accepted lines.
-  pub summed : (calls : List Sending) (accepted : List (List ℕ)) (s s' : PackedSums P A) → SumsUp accepted (sent_by s.sink) (held s.lines.aggregator)
+  pub summed : (calls : List stage.Call) (accepted : List (List ℕ)) (s s' : PackedSums P A) → SumsUp accepted (sent_by s.sink) (held s.lines.aggregator)
       → AllLead (SumsCall kind history) s calls s' → Summed s s' accepted calls
   summed [] accepted s s' past same = subst (λ x. Summed s x accepted []) (sym same) (record {
     all = [];
@@ -79,26 +83,26 @@ module _ {P A : Type 0} (kind : P → WriterKind) (history : P → PacketHistory
     past = subst (λ ls. SumsUp ls (sent_by s.sink) (held s.lines.aggregator)) (sym (append-nil accepted)) past;
   })
   summed (call ∷ calls) accepted s s' past (mid, one, rest) =
-      let lines : List (List ℕ) = texts_in (counts_of_kept (call ∷ [])) in
+      let lines : List (List ℕ) = texts_in (taken_in (call ∷ [])) in
       let r = summed calls (accepted ++ lines) mid s'
       (past_step accepted lines one.said (sent_by s.sink) (sent_by mid.sink) (held s.lines.aggregator) (held mid.lines.aggregator) past one.says one.summary) rest in
-      let texts : texts_in (counts_of_kept (call ∷ calls)) ≡ lines ++ texts_in (counts_of_kept calls) =
-      ap texts_in (kept_joined (call ∷ []) calls) ∙ map-append (λ (k : List ℕ × ℕ). k.0) (counts_of_kept (call ∷ [])) (counts_of_kept calls) in
+      let texts : texts_in (taken_in (call ∷ calls)) ≡ lines ++ texts_in (taken_in calls) =
+      ap texts_in (flat_map-append taken_by (call ∷ []) calls) ∙ map-append (λ (k : List ℕ × ℕ). k.0) (taken_in (call ∷ [])) (taken_in calls) in
       record {
         all = one.asked ++ r.all;
         asked = (one.asked, r.all, refl, one.asks, r.asked);
         packs = packs_joined kind history s.sink mid.sink s'.sink one.asked r.all one.packs r.packs;
         past = subst (λ ls. SumsUp ls (sent_by s'.sink) (held s'.lines.aggregator))
-            (append_assoc accepted lines (texts_in (counts_of_kept calls)) ∙ ap (λ ls. accepted ++ ls) (sym texts)) r.past;
+            (append_assoc accepted lines (texts_in (taken_in calls)) ∙ ap (λ ls. accepted ++ ls) (sym texts)) r.past;
       }
 
   -- Sums take a whole line or refuse it, and a refusal may have any error.
-  pub any_answer : (answering : WriterKind) (format : Format) → ((e : SinkError) → answering.may_give e ≡ true) → (calls : List Sending)
+  pub any_answer : (answering : WriterKind) (format : Format) → ((e : SinkError) → answering.may_give e ≡ true) → (calls : List stage.Call)
       (s s' : PackedSums P A) → AllLead (SumsCall kind history) s calls s' → AllByRecursion (MayAnswer answering format) calls
   any_answer answering format any [] s s' same = tt
-  any_answer answering format any (wrote line (Ok n) ∷ calls) s s' (mid, one, rest) =
+  any_answer answering format any (Line line (Ok n) ∷ calls) s s' (mid, one, rest) =
       let count : n ≡ length line = one.whole.0 in
       (record { within = omega (arith, count); fits = λ small. count; whole = λ whole. count }, any_answer answering format any calls mid s' rest)
-  any_answer answering format any (wrote line (Err e) ∷ calls) s s' (mid, one, rest) = (inl (any e), any_answer answering format any calls mid s' rest)
-  any_answer answering format any (flushed (Ok done) ∷ calls) s s' (mid, one, rest) = (tt, any_answer answering format any calls mid s' rest)
-  any_answer answering format any (flushed (Err e) ∷ calls) s s' (mid, one, rest) = (inl (any e), any_answer answering format any calls mid s' rest)
+  any_answer answering format any (Line line (Err e) ∷ calls) s s' (mid, one, rest) = (inl (any e), any_answer answering format any calls mid s' rest)
+  any_answer answering format any (Flush (Ok done) ∷ calls) s s' (mid, one, rest) = (tt, any_answer answering format any calls mid s' rest)
+  any_answer answering format any (Flush (Err e) ∷ calls) s s' (mid, one, rest) = (inl (any e), any_answer answering format any calls mid s' rest)

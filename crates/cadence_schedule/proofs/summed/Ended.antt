@@ -23,7 +23,9 @@ use Rattle.cadence_schedule.specs.Moves.{at_start}
 use Rattle.cadence_schedule.specs.RunHistory.{Turn, kept}
 use Rattle.cadence_schedule.specs.RunOutcome.{outcome_after}
 use Rattle.cadence_schedule.specs.Running.{Runs, queue_state}
-use Rattle.cadence_schedule.specs.Sendings.{Sending, counts_of_kept, texts_in}
+use Rattle.cadence_stage.specs.Call as stage
+use Rattle.cadence_stage.specs.Past.{taken_in}
+use Rattle.cadence_schedule.specs.Calls.{texts_in}
 use Rattle.cadence_schedule.specs.SumsCalls.{SumsCall}
 use Rattle.cadence_schedule.specs.declared.packed_sums.PackedSums.{PackedSums}
 use Rattle.cadence_schedule.specs.declared.running.Running.{Running}
@@ -49,8 +51,8 @@ module _ {W A : Type 0} (kind_of : W → WriterKind) (history_of : W → PacketH
   abbrev shows : CountingWriter W → PacketHistory
   shows = inner kind_of history_of settings capacity ending queue policy steps writer
 
-  abbrev pub leads : PackedSums (CountingWriter W) A → Sending → PackedSums (CountingWriter W) A → Type 0
-  leads old call new = SumsCall counts shows old call new
+  abbrev pub leads : PackedSums (CountingWriter W) A → PackedSums (CountingWriter W) A → stage.Call → Type 0
+  leads old new call = SumsCall counts shows old call new
 
   module _ (law : (metric : Metric) → 0 < length (line_of metric)) (least : LeastPackets) (first : PackedSums (CountingWriter W) A)
       (run : Running (PackedSums (CountingWriter W) A) A) (replies : Vec Reply A)
@@ -65,7 +67,7 @@ module _ {W A : Type 0} (kind_of : W → WriterKind) (history_of : W → PacketH
     turns = zip steps replies.items
 
     abbrev summing : PackedSums (CountingWriter W) A
-    summing = run.recipient
+    summing = run.stage
 
     begun : SumsUp [] (sent_by first.sink) (held first.lines.aggregator)
     begun = subst (λ h. SumsUp [] (sent_by first.sink) h) (sym none_held) (subst (λ ns. SumsUp [] (map sample_of_note ns) []) (sym none_noted) none_past)
@@ -76,13 +78,13 @@ module _ {W A : Type 0} (kind_of : W → WriterKind) (history_of : W → PacketH
     causes : AllByRecursion (MayAnswer (with_aggregator given).kind given.format) r.given
     causes = any_answer counts shows (with_aggregator given).kind given.format (λ e. refl) r.given first summing r.led
 
-    summary : Summarizes (kept lines turns) (texts_in (counts_of_kept calls.all)) (held summing.lines.aggregator)
+    summary : Summarizes (kept lines turns) (texts_in (taken_in calls.all)) (held summing.lines.aggregator)
     summary =
-        subst (λ ls. Summarizes ls (texts_in (counts_of_kept calls.all)) (held summing.lines.aggregator))
+        subst (λ ls. Summarizes ls (texts_in (taken_in calls.all)) (held summing.lines.aggregator))
         (ap texts_in (after history_of (with_aggregator given) leads first run summing.sink.packing replies one_each few r causes).kept_is)
-        (subst (λ ls. Summarizes (texts_in (counts_of_kept r.given)) ls (held summing.lines.aggregator))
-        (calls.packs.lines ∙ ap (λ ns. map line_of_note ns ++ texts_in (counts_of_kept calls.all)) none_noted)
-        (summarizes (texts_in (counts_of_kept r.given)) summing.sink.notes.items (held summing.lines.aggregator) calls.past))
+        (subst (λ ls. Summarizes (texts_in (taken_in r.given)) ls (held summing.lines.aggregator))
+        (calls.packs.lines ∙ ap (λ ns. map line_of_note ns ++ texts_in (taken_in calls.all)) none_noted)
+        (summarizes (texts_in (taken_in r.given)) summing.sink.notes.items (held summing.lines.aggregator) calls.past))
 
     -- the promise, of a whole run
     pub has_aggregated : length summing.sink.packing.packer.held ≤ summing.sink.packing.packer.format.capacity
@@ -96,9 +98,9 @@ module _ {W A : Type 0} (kind_of : W → WriterKind) (history_of : W → PacketH
           asked = asked;
           packed =
               packed kind_of history_of settings capacity ending queue policy steps writer first.sink.packing summing.sink.packing new calls.all calls.packs.sends
-              (kept_filled (kept lines turns) (counts_of_kept calls.all) (held summing.lines.aggregator)
+              (kept_filled (kept lines turns) (taken_in calls.all) (held summing.lines.aggregator)
               (all_filled lines (line_filled law settings) turns) summary) (length steps)
-              (omega (arith, no_more_kept (kept lines turns) (counts_of_kept calls.all) (held summing.lines.aggregator) summary, length-kept lines turns, short))
+              (omega (arith, no_more_kept (kept lines turns) (taken_in calls.all) (held summing.lines.aggregator) summary, length-kept lines turns, short))
               (omega (arith, few_errors turns calls.all asked, short)) few run replies least bound bytes packets;
           summary = summary;
         }

@@ -1,8 +1,8 @@
 -- No line that was handed on is empty, and they are no more than the accepted lines.
-use Rattle.std.proofs.Common.{◌≡◌, ◌≢◌, ℕ, ◌<◌, ◌≤◌, List, [], ◌∷◌, ◌++◌, length, map, sym, ap, ◌∙◌, subst, arith}
+use Rattle.std.proofs.Common.{◌≡◌, ◌≢◌, ℕ, ◌≤◌, List, [], ◌∷◌, ◌++◌, length, map, sym, ap, ◌∙◌, subst, arith}
 use Rattle.std.specs.List.{AllByRecursion, AllZip}
 use Rattle.std.proofs.lemmas.List.{length-append, length-map, map-append}
-use Rattle.cadence_schedule.specs.Sendings.{texts_in}
+use Rattle.cadence_schedule.specs.Calls.{texts_in}
 use Rattle.cadence_aggregate.specs.Server.{Sample, amount, level, member, timing, unclear, other, others}
 use Rattle.cadence_aggregate.proofs.Observed.{others-append}
 use Rattle.cadence_aggregating.specs.Past.{Summarizes}

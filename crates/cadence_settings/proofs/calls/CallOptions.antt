@@ -1,5 +1,5 @@
 -- The metric of a call and its options: what each option adds, and the drafts of lines that they lead to.
-use Rattle.std.proofs.Common.{◌≡◌, ℕ, ◌<◌, ◌^◌, List, [], ◌∷◌, ◌++◌, Option, Some, None, Result, Ok, Err, ap, ap₂, ◌∙◌, subst, sym, append_assoc}
+use Rattle.std.proofs.Common.{◌≡◌, ℕ, ◌<◌, ◌^◌, List, [], ◌∷◌, ◌++◌, Option, Some, None, Result, Ok, Err, ap, ap₂, ◌∙◌, refl, subst, sym, append_assoc, Bool}
 use Rattle.std.proofs.lemmas.List.{append-nil, map-append}
 use Rattle.std.proofs.lemmas.List.Elements.{All-map, filter_map-append}
 use Rattle.std.proofs.lemmas.List.Sums.{fold-append}
@@ -7,6 +7,7 @@ use Rattle.std.specs.List.{fold}
 use Rattle.std.specs.Option.{option_map}
 use Rattle.cadence_text.specs.declared.line.MetricType.{MetricType}
 use Rattle.cadence_value.specs.declared.value.MetricValue.{MetricValue}
+use Rattle.cadence_text.specs.Cleaned.{text_as}
 use Rattle.cadence_text.specs.Draft.{draft_of, draft_with, head_text, head_with, Draft}
 use Rattle.cadence_text.specs.DraftParts.{plain_draft}
 use Rattle.std.specs.Prelude.{All, IfSome, IsUtf8, map, slice_index_or, String, string_bytes}
@@ -22,9 +23,9 @@ use Rattle.cadence_text.specs.Metric.{Metric, Tag}
 use Rattle.cadence_value.specs.Number.{IsDecimal, Number, numbers_text}
 use Rattle.cadence_value.specs.Values.{Converts, numbers_of}
 use Rattle.cadence_settings.specs.Settings.{Settings}
-use Rattle.cadence_settings.specs.Call.{Choice, tagged, contained, timed, rated, IsDraftOf, MetricCall, plain_call, with_choice, chosen}
+use Rattle.cadence_settings.specs.Call.{Choice, tagged, contained, timed, rated, IsDraftOf, MetricCall, choice_as, plain_call, with_choice, chosen}
 use Rattle.cadence_settings.specs.Call.{metric_of_call, MakesMetric}
-use Rattle.cadence_settings.specs.CallData.{choice_of, kind_of_value, metric_of_data, numbers_of_data}
+use Rattle.cadence_settings.specs.CallData.{choice_of, kind_of_value, metric_of_data, numbers_of_data, sent_choice}
 use Rattle.cadence_settings.specs.declared.call.Call.{Call}
 use Rattle.cadence_settings.specs.declared.call.CallOption.{CallOption}
 
@@ -46,12 +47,12 @@ fold-chosen s c (o ∷ os) =
     ∙ ap (λ (l : List Choice). metric_of_call s (record c { choices = l })) (append_assoc c.choices (o ∷ []) os))
 
 -- one more option of a list is applied
-pub chosen_more : {Z : Type 0} (m : Metric) (taken more : List (CallOption Z)) (o : CallOption Z)
-    → more ≡ taken ++ o ∷ [] → chosen (fold chosen m (map choice_of taken)) (choice_of o) ≡ fold chosen m (map choice_of more)
-chosen_more m taken more o e =
+pub chosen_more : {X : Type 0} (choice : X → Choice) (m : Metric) (taken more : List X) (o : X)
+    → more ≡ taken ++ o ∷ [] → chosen (fold chosen m (map choice taken)) (choice o) ≡ fold chosen m (map choice more)
+chosen_more choice m taken more o e =
     cc (
-      map-append choice_of taken (o ∷ []),
-      fold-append chosen m (map choice_of taken) (choice_of o ∷ []),
+      map-append choice taken (o ∷ []),
+      fold-append chosen m (map choice taken) (choice o ∷ []),
     )
 
 -- the metric of a call without options, after its options are applied, is the metric of the call
@@ -86,21 +87,30 @@ pub draft_of_call : (s : Settings) (kind : MetricType) (prefix key tags : List �
 unfolding metric_of_call
 draft_of_call s kind prefix key tags container ns p t c = draft_of_value s kind prefix key (numbers_text ns) tags container ns p t c
 
+-- the options of a call in its line, one after the other or all at once
+twice_mapped : {Z : Type 0} (cleaned : Bool) (os : List (CallOption Z))
+    → map (sent_choice cleaned) os ≡ map (choice_as cleaned) (map choice_of os)
+twice_mapped cleaned [] = refl
+twice_mapped cleaned (o ∷ os) = ap (λ cs. sent_choice cleaned o ∷ cs) (twice_mapped cleaned os)
+
 -- a call that is kept as data has a metric, if its value converts and the settings allow it; and applying its options to the draft of the call
 -- without options gives the draft of this metric
 pub drafted_call : {Z : Type 0} (s : Settings) (call : Call Z) (v : MetricValue Z) (kind : MetricType) (key : List ℕ)
     (options : List (CallOption Z)) (old new : Draft)
     → Converts (numbers_of_data s call) (Ok v)
-    → kind ≡ kind_of_value call.value → key ≡ string_bytes call.key → options ≡ call.options.items
+    → kind ≡ kind_of_value call.value → key ≡ text_as s.cleaned (string_bytes call.key) → options ≡ call.options.items
     → IsDraftOf (metric_of_call s (plain_call kind key (numbers_of v))) old
-    → ((m : Metric) → IsDraftOf m old → IsDraftOf (fold chosen m (map choice_of options)) new)
+    → ((m : Metric) → IsDraftOf m old → IsDraftOf (fold chosen m (map (sent_choice s.cleaned) options)) new)
     → (m : Metric) × (metric_of_data s call ≡ Some m) × IsDraftOf m new
 drafted_call s call v kind key options old new converts k n o begun grows =
     let first : Metric = metric_of_call s (plain_call kind key (numbers_of v)) in
-    found (metric_of_data s call) (fold chosen first (map choice_of options))
-    (makes_metric-fold s (kind_of_value call.value) (string_bytes call.key) (map choice_of call.options.items) (numbers_of_data s call)
-    v first (fold chosen first (map choice_of options)) converts (ap₂ (λ k n. metric_of_call s (plain_call k n (numbers_of v))) k n)
-    (ap (λ (os : List (CallOption _)). fold chosen first (map choice_of os)) o))
+    let sent = sent_choice s.cleaned in
+    found (metric_of_data s call) (fold chosen first (map sent options))
+    (makes_metric-fold s (kind_of_value call.value) (text_as s.cleaned (string_bytes call.key))
+    (map (choice_as s.cleaned) (map choice_of call.options.items)) (numbers_of_data s call)
+    v first (fold chosen first (map sent options)) converts (ap₂ (λ k n. metric_of_call s (plain_call k n (numbers_of v))) k n)
+    (ap (λ (os : List (CallOption _)). fold chosen first (map sent os)) o
+    ∙ ap (fold chosen first) (twice_mapped s.cleaned call.options.items)))
     (grows first begun)
   where
     found : (o : Option Metric) (m : Metric) → MakesMetric o (Ok m) → IsDraftOf m new → (m : Metric) × (o ≡ Some m) × IsDraftOf m new

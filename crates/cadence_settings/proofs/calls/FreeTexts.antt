@@ -1,22 +1,23 @@
 -- The metrics that strict settings allow are clear, and strict settings stay so with what they allow.
-use Rattle.std.proofs.Common.{◌≡◌, ℕ, List, [], ◌∷◌, ◌++◌, Option, Some, None, Bool, true, false, refl, subst, ◌∙◌}
+use Rattle.std.proofs.Common.{◌≡◌, ◌⊎◌, inl, inr, ⊎_elim, ℕ, List, [], ◌∷◌, ◌++◌, Option, Some, None, Bool, true, false, map, refl, subst, sym, ◌∙◌}
 use Rattle.std.specs.Prelude.{All, IfSome, IsTrue, if◌then◌else◌, ◌&&◌, ◌||◌, not}
 use Rattle.std.specs.List.{filter_map, list_all}
 use Rattle.std.proofs.lemmas.Bool.{and_from, and_parts}
 use Rattle.std.proofs.lemmas.List.Folds.{list_all-append}
 use Rattle.std.proofs.lemmas.List.Elements.{All-append, All-cons, All-nil}
 use Rattle.std.specs.Option.{option_map}
+use Rattle.cadence_text.specs.Cleaned.{CleanedTextsAreClear, cleaned_tag, cleaned_text, container_as, tag_as, text_as}
 use Rattle.cadence_text.specs.Laws.{ClearTextsPass}
 use Rattle.cadence_text.specs.Metric.{Metric, Tag}
 use Rattle.cadence_text.specs.OneReading.{IsClear, IsClearTag, IsFreeText, IsNoSeparator}
 use Rattle.cadence_settings.specs.Call.{Choice, tagged, contained, timed, rated, MetricCall, metric_of_call, chosen_tag, chosen_container, last_or}
-use Rattle.cadence_settings.specs.Call.{allows_call, is_clear_call, is_clear_choice}
+use Rattle.cadence_settings.specs.Call.{allows_call, call_for, choice_as, is_clear_call, is_clear_choice, metric_for}
 use Rattle.cadence_value.specs.Number.{Number}
 use Rattle.cadence_settings.specs.declared.call.Call.{Call}
 use Rattle.cadence_settings.specs.CallData.{call_of, metric_of_data, numbers_of_value}
-use Rattle.cadence_settings.specs.Laws.{StrictCallsAreClear}
+use Rattle.cadence_settings.specs.Laws.{CleanedCallsAreClear, StrictCallsAreClear}
 use Rattle.cadence_text.specs.FreeTexts.{is_free_text, is_free_if_any, is_clear_tag}
-use Rattle.cadence_settings.specs.Settings.{Settings, is_clear_settings, allows_tag, with_default_tag}
+use Rattle.cadence_settings.specs.Settings.{Settings, clears_texts, is_clear_settings, allows_tag, allows_text, with_cleaned_texts}
 
 clear_chosen_tags : ClearTextsPass → (os : List Choice) → list_all is_clear_choice os ≡ true → All IsClearTag (filter_map chosen_tag os)
 clear_chosen_tags law [] h = All-nil IsClearTag
@@ -52,19 +53,114 @@ clear_metric law s c settings call =
       container = free_container law s.container c.choices ((law.any s.container).0 container) choices;
     }
 
--- the metric of each call that strict settings allow is clear
-pub strict_call_clear : ClearTextsPass → (s : Settings) (c : MetricCall) → IsTrue s.strict → IsTrue (is_clear_settings s) → IsTrue (allows_call s c)
-    → IsClear (metric_of_call s c)
-strict_call_clear law s c strict settings allowed =
-    clear_metric law s c settings (subst (λ (b : Bool). (not b || is_clear_call c) ≡ true) strict allowed)
+-- cleaned texts are clear, and texts that are clear stay so
+module _ (law : CleanedTextsAreClear) where
+  clear_text_as : (cleaned : Bool) (text : List ℕ) → is_free_text text ≡ true → is_free_text (text_as cleaned text) ≡ true
+  clear_text_as true text h = law.text text
+  clear_text_as false text h = h
 
--- clear settings are clear with one more default tag that they allow, or another container
-pub clear_with_tag : (s : Settings) (t : Tag) → IsTrue s.strict → IsTrue (is_clear_settings s) → IsTrue (allows_tag s t)
-    → IsTrue (is_clear_settings (with_default_tag s t))
-clear_with_tag s t strict free allowed =
+  pub clear_tag_as : (cleaned : Bool) (t : Tag) → is_clear_tag t ≡ true → is_clear_tag (tag_as cleaned t) ≡ true
+  clear_tag_as true t h = law.tag t
+  clear_tag_as false t h = h
+
+  clear_choice_as : (cleaned : Bool) (o : Choice) → is_clear_choice o ≡ true → is_clear_choice (choice_as cleaned o) ≡ true
+  clear_choice_as cleaned (tagged t) h = clear_tag_as cleaned t h
+  clear_choice_as cleaned (contained c) h = clear_text_as cleaned c h
+  clear_choice_as cleaned (timed n) h = h
+  clear_choice_as cleaned (rated r) h = h
+
+  clear_choices_as : (cleaned : Bool) (os : List Choice) → list_all is_clear_choice os ≡ true
+      → list_all is_clear_choice (map (choice_as cleaned) os) ≡ true
+  clear_choices_as cleaned [] h = refl
+  clear_choices_as cleaned (o ∷ os) h =
+      let (first, rest) = and_parts (is_clear_choice o) (list_all is_clear_choice os) h in
+      and_from (is_clear_choice (choice_as cleaned o)) (list_all is_clear_choice (map (choice_as cleaned) os))
+      (clear_choice_as cleaned o first) (clear_choices_as cleaned os rest)
+
+  -- the metric of each call that strict settings allow is clear
+  pub strict_call_clear : ClearTextsPass → (s : Settings) (c : MetricCall) → IsTrue s.strict → IsTrue (is_clear_settings s)
+      → IsTrue (allows_call s c) → IsClear (metric_for s c)
+  strict_call_clear pass s c strict settings allowed =
+      let clear : is_clear_call c ≡ true = subst (λ (b : Bool). (not b || is_clear_call c) ≡ true) strict allowed in
+      let (choices, key) = and_parts (list_all is_clear_choice c.choices) (is_free_text c.key) clear in
+      clear_metric pass s (call_for s c) settings
+      (and_from (list_all is_clear_choice (map (choice_as s.cleaned) c.choices)) (is_free_text (text_as s.cleaned c.key))
+      (clear_choices_as s.cleaned c.choices choices) (clear_text_as s.cleaned c.key key))
+
+  cleaned_choice : (o : Choice) → is_clear_choice (choice_as true o) ≡ true
+  cleaned_choice (tagged t) = law.tag t
+  cleaned_choice (contained c) = law.text c
+  cleaned_choice (timed n) = refl
+  cleaned_choice (rated r) = refl
+
+  cleaned_choices : (os : List Choice) → list_all is_clear_choice (map (choice_as true) os) ≡ true
+  cleaned_choices [] = refl
+  cleaned_choices (o ∷ os) =
+      and_from (is_clear_choice (choice_as true o)) (list_all is_clear_choice (map (choice_as true) os)) (cleaned_choice o)
+      (cleaned_choices os)
+
+  -- the metric of each call of settings that clean texts is clear
+  pub cleaned_call_clear : ClearTextsPass → (s : Settings) (c : MetricCall) → IsTrue s.cleaned → IsTrue (is_clear_settings s)
+      → IsClear (metric_for s c)
+  cleaned_call_clear pass s c cleaned settings =
+      clear_metric pass s (call_for s c) settings
+      (and_from (list_all is_clear_choice (map (choice_as s.cleaned) c.choices)) (is_free_text (text_as s.cleaned c.key))
+      (subst (λ (b : Bool). list_all is_clear_choice (map (choice_as b) c.choices) ≡ true) (sym cleaned) (cleaned_choices c.choices))
+      (subst (λ (b : Bool). is_free_text (text_as b c.key) ≡ true) (sym cleaned) (law.text c.key)))
+
+  -- a default tag that the settings allow is clear
+  allowed_clear : (strict cleaned : Bool) (t : Tag) → (strict || cleaned) ≡ true → (not strict || is_clear_tag t) ≡ true
+      → is_clear_tag (tag_as cleaned t) ≡ true
+  allowed_clear strict true t either allowed = law.tag t
+  allowed_clear true false t either allowed = allowed
+  allowed_clear false false t either allowed = absurd cc
+
+  pub kept_clear : (s : Settings) (t : Tag) → IsTrue (s.strict || s.cleaned) → IsTrue (allows_tag s t)
+      → is_clear_tag (tag_as s.cleaned t) ≡ true
+  kept_clear s t either allowed = allowed_clear s.strict s.cleaned t either allowed
+
+  allowed_free : (strict cleaned : Bool) (t : List ℕ) → (strict || cleaned) ≡ true → (not strict || is_free_text t) ≡ true
+      → is_free_text (text_as cleaned t) ≡ true
+  allowed_free strict true t either allowed = law.text t
+  allowed_free true false t either allowed = allowed
+  allowed_free false false t either allowed = absurd cc
+
+  pub kept_free : (s : Settings) (t : List ℕ) → IsTrue (s.strict || s.cleaned) → IsTrue (allows_text s t)
+      → is_free_text (text_as s.cleaned t) ≡ true
+  kept_free s t either allowed = allowed_free s.strict s.cleaned t either allowed
+
+  cleaned_tags_clear : (ts : List Tag) → list_all is_clear_tag (map cleaned_tag ts) ≡ true
+  cleaned_tags_clear [] = refl
+  cleaned_tags_clear (t ∷ ts) =
+      and_from (is_clear_tag (cleaned_tag t)) (list_all is_clear_tag (map cleaned_tag ts)) (law.tag t) (cleaned_tags_clear ts)
+
+  cleaned_container_free : (c : Option (List ℕ)) → is_free_if_any (container_as true c) ≡ true
+  cleaned_container_free None = refl
+  cleaned_container_free (Some c) = law.text c
+
+  -- settings with cleaned texts are clear
+  pub cleaned_settings_clear : (s : Settings) → IsTrue (is_clear_settings (with_cleaned_texts s))
+  cleaned_settings_clear s =
+      and_from (is_free_text (cleaned_text false s.prefix)) (list_all is_clear_tag (map cleaned_tag s.tags) && is_free_if_any (container_as true s.container))
+      (law.text s.prefix)
+      (and_from (list_all is_clear_tag (map cleaned_tag s.tags)) (is_free_if_any (container_as true s.container)) (cleaned_tags_clear s.tags)
+      (cleaned_container_free s.container))
+
+-- clear settings are clear with another container that is free of separators
+pub clear_with_container : (s : Settings) (c : List ℕ) → IsTrue (is_clear_settings s) → is_free_text c ≡ true
+    → IsTrue (is_clear_settings (record s { container = Some c }))
+clear_with_container s c free one =
+    let (prefix, defaults) = and_parts (is_free_text s.prefix) (list_all is_clear_tag s.tags && is_free_if_any s.container) free in
+    and_from (is_free_text s.prefix) (list_all is_clear_tag s.tags && is_free_text c) prefix
+    (and_from (list_all is_clear_tag s.tags) (is_free_text c)
+    (and_parts (list_all is_clear_tag s.tags) (is_free_if_any s.container) defaults).0 one)
+
+-- clear settings are clear with one more clear default tag
+pub clear_with_tag : (s : Settings) (t : Tag) → IsTrue (is_clear_settings s) → is_clear_tag t ≡ true
+    → IsTrue (is_clear_settings (record s { tags = s.tags ++ t ∷ [] }))
+clear_with_tag s t free one =
     let (prefix, defaults) = and_parts (is_free_text s.prefix) (list_all is_clear_tag s.tags && is_free_if_any s.container) free in
     let (tags, container) = and_parts (list_all is_clear_tag s.tags) (is_free_if_any s.container) defaults in
-    let one : is_clear_tag t ≡ true = subst (λ (b : Bool). (not b || is_clear_tag t) ≡ true) strict allowed in
     and_from (is_free_text s.prefix) (list_all is_clear_tag (s.tags ++ t ∷ []) && is_free_if_any s.container) prefix
     (and_from (list_all is_clear_tag (s.tags ++ t ∷ [])) (is_free_if_any s.container)
     (list_all-append is_clear_tag s.tags (t ∷ []) ∙ and_from (list_all is_clear_tag s.tags) (is_clear_tag t && true) tags
@@ -77,8 +173,15 @@ by_allowed P true (Some ns) f h = h refl ns
 by_allowed P true None f h = tt
 by_allowed P false numbers f h = tt
 
-pub strict_data_clear : {Z : Type 0} (s : Settings) → StrictCallsAreClear → IsTrue s.strict → IsTrue (is_clear_settings s)
+-- Settings that clear texts are strict, or clean texts.
+pub strict_or_cleaned : (strict cleaned : Bool) → IsTrue (strict || cleaned) → IsTrue strict ⊎ IsTrue cleaned
+strict_or_cleaned true cleaned either = inl refl
+strict_or_cleaned false cleaned either = inr either
+
+-- The metric of each call is clear, if the settings clear texts.
+pub cleared_data : {Z : Type 0} (s : Settings) → StrictCallsAreClear → CleanedCallsAreClear → IsTrue (clears_texts s) → IsTrue (is_clear_settings s)
     → (c : Call Z) → IfSome (metric_of_data s c) IsClear
-strict_data_clear s law strict free c =
-    by_allowed IsClear (allows_call s (call_of c [])) (numbers_of_value c.value) (λ ns. metric_of_call s (call_of c ns))
-    (λ allowed ns. law s (call_of c ns) strict free allowed)
+cleared_data s of_strict of_cleaned clears clear c =
+    by_allowed IsClear (allows_call s (call_of c [])) (numbers_of_value c.value) (λ ns. metric_for s (call_of c ns))
+    (λ allowed ns. ⊎_elim (λ strict. of_strict s (call_of c ns) strict clear allowed) (λ cleaned. of_cleaned s (call_of c ns) cleaned clear)
+    (strict_or_cleaned s.strict s.cleaned clears))

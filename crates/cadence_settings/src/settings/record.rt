@@ -18,9 +18,10 @@ impl<A: Allocator + Clone> ClientSettings<A> {
     ghost use Rattle.cadence_settings.specs.Settings.{allows_text};
     ghost use Rattle.cadence_value.specs.Values.{numbers_of};
     ghost use Rattle.cadence_settings.specs.Call.{MakesMetric, metric_of_call, plain_call};
-    ghost use Rattle.cadence_settings.specs.CallData.{metric_of_data};
+    ghost use Rattle.cadence_settings.specs.CallData.{record_metric};
 
     /// Returns the record of a call without options, to which the prefix and the defaults of these settings are added.
+    /// It borrows the texts of the call, so they are not cleaned.
     ///
     /// # Errors
     /// An error of kind `InvalidInput` (`separator in a text`) if and only if the settings are strict and the key has a
@@ -66,12 +67,12 @@ impl<A: Allocator + Clone> ClientSettings<A> {
     }
 
     /// Returns the record of a call that is kept as data, to which the prefix and the defaults of these settings and
-    /// the options of the call are added.
+    /// the options of the call are added. It borrows the texts of the call, so they are not cleaned.
     ///
     /// # Errors
     /// Those of [`ClientSettings::line_of`].
     pub fn record_of<'a>(&'a self, call: &'a Call<A>) -> MetricResult<Record<'a, A>>
-        ensures { MakesMetric (metric_of_data self.now call.now) result }
+        ensures { MakesMetric (record_metric self.now call.now) result }
     {
         let value = match self.value_of(call) {
             Ok(value) => value,

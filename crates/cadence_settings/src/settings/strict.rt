@@ -4,11 +4,12 @@ ghost use Rattle.std.specs.List.{list_all};
 ghost use Rattle.cadence_errors.specs.Errors.{IsInvalid};
 ghost use Rattle.cadence_text.specs.Owned.{tag_of_owned};
 ghost use Rattle.cadence_text.specs.FreeTexts.{is_free_if_any, is_clear_tag, is_free_text};
+ghost use Rattle.cadence_text.specs.Record.{tag_of};
 
 use super::ClientSettings;
 use crate::call::Call;
 use cadence_errors::{ErrorKind, InputError, MetricError, MetricResult, Reason};
-use cadence_text::line::{OwnedTag, is_free, is_free_after_key, lend_tag};
+use cadence_text::line::{OwnedTag, Tag, is_free, is_free_after_key, lend_tag};
 use cadence_value::value::MetricValue;
 use std::alloc::Allocator;
 
@@ -34,8 +35,8 @@ pub fn text_is_free(text: &str) -> bool
     is_free(text.as_bytes())
 }
 
-// Returns whether a text has no separator, if there is a text.
-fn any_is_free(text: Option<&str>) -> bool
+/// Returns whether a text has no separator, if there is a text.
+pub fn any_is_free(text: Option<&str>) -> bool
     ensures { result ≡ is_free_if_any (option_copied text.entry) }
 {
     match text {
@@ -56,8 +57,27 @@ pub fn tag_is_clear(key: Option<&str>, text: &str) -> bool
     }
 }
 
-// Returns whether each tag of the list is clear.
-fn tags_are_clear<A: Allocator>(tags: &[OwnedTag<A>]) -> bool
+// Returns whether a tag is clear: it has no separator, except colons after its key.
+fn is_clear(tag: &Tag<'_>) -> bool
+    ensures { result ≡ is_clear_tag (tag_of tag.now) }
+{
+    tag_is_clear(tag.key, tag.text)
+}
+
+/// Returns whether each tag of the list is clear, as `tag_is_clear` says of one.
+pub fn tags_are_clear(tags: &[Tag<'_>]) -> bool
+    ensures { result ≡ list_all is_clear_tag (map tag_of tags.now) }
+{
+    for tag in tags {
+        if !is_clear(tag) {
+            return false;
+        }
+    }
+    true
+}
+
+// Returns whether each tag that settings own is clear.
+fn own_tags_are_clear<A: Allocator>(tags: &[OwnedTag<A>]) -> bool
     ensures { result ≡ list_all is_clear_tag (map tag_of_owned tags.now) }
 {
     for owned in tags {
@@ -106,6 +126,7 @@ impl<A: Allocator + Clone> ClientSettings<A> {
             return Err(MetricError::from(DraftError::Unusable(Separator)));
         }
         self.strict = true;
+        self.cleaned = false;
         Ok(())
     }
 
@@ -121,7 +142,7 @@ impl<A: Allocator + Clone> ClientSettings<A> {
     fn is_clear(&self) -> bool
         ensures { result ≡ is_clear_settings self.now }
     {
-        if !text_is_free(&self.prefix) || !tags_are_clear(&self.tags) {
+        if !text_is_free(&self.prefix) || !own_tags_are_clear(&self.tags) {
             return false;
         }
         any_is_free(self.default_container())

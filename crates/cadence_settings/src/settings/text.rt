@@ -2,7 +2,7 @@
 ghost use Rattle.std.specs.Prelude.{◌≡◌, [], IfErr, IfOk, IsTrue, OnOk};
 ghost use Rattle.cadence_text.specs.Draft.{draft_with};
 ghost use Rattle.cadence_text.specs.TextValue.{IsFitValue, value_kind, value_text};
-ghost use Rattle.cadence_settings.specs.Call.{metric_of_call, plain_call};
+ghost use Rattle.cadence_settings.specs.Call.{metric_for, plain_call};
 ghost use Rattle.cadence_settings.specs.Settings.{allows_text};
 ghost use Rattle.cadence_settings.specs.TextCalls.{TextDraftFails};
 
@@ -47,7 +47,7 @@ impl<A: Allocator + Clone> ClientSettings<A> {
         value: &TextValue<'_>,
     ) -> Result<DraftLine<'a, A>, TextError>
         ensures draft { IfOk result (λ draft. draft ≡ draft_with (value_text value.now)
-            (metric_of_call self.now (plain_call (value_kind value.now) key.now []))) }
+            (metric_for self.now (plain_call (value_kind value.now) key.now []))) }
         ensures allowed { OnOk result (IsTrue (allows_text self.now key.now)) }
         ensures fit { OnOk result (IsFitValue value.now) }
         ensures refused { IfErr result (TextDraftFails (allows_text self.now key.now) value.now) }
@@ -58,11 +58,12 @@ impl<A: Allocator + Clone> ClientSettings<A> {
         if !value.is_fit() {
             return Err(TextError::Unusable(UnfitText::Member));
         }
+        let key = self.key_text(key)?;
         let (tags, container) = (self.text.as_str(), self.default_container());
         let draft = DraftLine::of_text(
             buffer,
             &self.prefix,
-            key,
+            key.as_str(),
             value,
             tags,
             container,

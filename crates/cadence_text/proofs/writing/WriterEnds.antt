@@ -1,12 +1,15 @@
 -- The texts that the writers of a line end with. The writers are the counter of bytes and the line buffer.
-use Rattle.std.proofs.Common.{◌≡◌, ℕ, ◌+◌, ◌%◌, ◌^◌, ◌<◌, ◌≤◌, Bool, true, false, ltb, List, [], ◌∷◌, ◌++◌, subst, length, replicate, sym}
-use Rattle.std.proofs.Common.{ap, ◌∙◌, arith, refl}
+use Rattle.std.proofs.Common.{◌≡◌, ℕ, ◌+◌, ◌%◌, ◌^◌, ◌<◌, ◌≤◌, Bool, true, false, ltb, List, [], ◌∷◌, ◌++◌, map, subst, length, replicate, sym}
+use Rattle.std.proofs.Common.{ap, ap₂, ◌∙◌, arith, refl}
 use Rattle.std.proofs.lemmas.List.{append-nil, length-append, length-replicate}
-use Rattle.std.proofs.lemmas.Bool.{cond-false, le-ltb, ltb-false}
+use Rattle.std.proofs.lemmas.Bool.{cond-false, cond-true, le-ltb, lt-ltb, ltb-false}
+use Rattle.std.proofs.Math.Seq.{take-append_seam, drop-append_seam}
+use Rattle.cadence_text.specs.Cleaned.{cleaned_byte}
+use Rattle.cadence_text.proofs.grammar.Cleaned.{cleaned_utf8}
 use Rattle.std.specs.Prelude.{if◌then◌else◌, IsUtf8}
 use Rattle.std.proofs.lemmas.Str.{IsUtf8-append, IsUtf8-from_ascii, IsUtf8-had}
 use Rattle.std.proofs.lemmas.Str.Ascii.{IsAscii-cons, IsAscii-nil}
-use Rattle.cadence_text.specs.PieceWriters.{text_up_to}
+use Rattle.cadence_text.specs.PieceWriters.{cleaned_after, text_up_to}
 
 -- A counter that began at 0 and took a text shows the text's length.
 pub counted_whole : (count : ℕ) (text : List ℕ) → count < 2 ^ 128 → length text < 2 ^ 128
@@ -77,3 +80,29 @@ pub counted_written : (count told before after : ℕ) (old was new text : List �
 counted_written count told before after old was new text fits short counted same end some is taken =
     let whole : count ≡ length text = counted_whole count text fits short counted in
     filled_more before after old was new text (omega (arith, some)) (omega (arith, whole, same, end)) is taken
+
+-- A buffer that gave up ends with no text, as a text that passes the end does.
+nothing_up_to : (rest : List ℕ) → text_up_to 0 rest ≡ []
+nothing_up_to [] = refl
+nothing_up_to (x ∷ rest) = cond-true (ltb 0 (length (x ∷ rest))) [] (x ∷ rest) (lt-ltb 0 (length (x ∷ rest)) (omega arith))
+
+pub given_up : (end : ℕ) (old text new rest : List ℕ) (after : ℕ) → end < length old + length text → new ≡ [] → after ≡ 0
+    → text_up_to after (new ++ rest) ≡ text_up_to end (old ++ (text ++ rest))
+given_up end old text new rest after long none zero =
+    let whole = old ++ (text ++ rest) in
+    let over : end < length whole = omega (arith, long, length-append old (text ++ rest), length-append text rest) in
+    ap (λ n. text_up_to n (new ++ rest)) zero ∙ ap (λ t. text_up_to 0 (t ++ rest)) none ∙ nothing_up_to rest
+    ∙ sym (cond-true (ltb end (length whole)) [] whole (lt-ltb end (length whole) over))
+
+-- The end of a text is cleaned if it is cleaned after the length of its beginning.
+pub cleaned_end : (after_key : Bool) (start : ℕ) (old piece new : List ℕ) → start ≡ length old → new ≡ old ++ piece
+    → cleaned_after start after_key new ≡ old ++ map (cleaned_byte after_key) piece
+cleaned_end after_key start old piece new at is =
+    ap₂ (λ n l. cleaned_after n after_key l) at is
+    ∙ ap₂ (λ a b. a ++ map (cleaned_byte after_key) b) (take-append_seam old piece) (drop-append_seam old piece)
+
+pub cleaned_end_utf8 : (after_key : Bool) (start : ℕ) (old piece new : List ℕ) → start ≡ length old → new ≡ old ++ piece → ∥ IsUtf8 old ∥₁ → IsUtf8 piece
+    → IsUtf8 (cleaned_after start after_key new)
+cleaned_end_utf8 after_key start old piece new at is before here =
+    subst IsUtf8 (sym (cleaned_end after_key start old piece new at is))
+    (IsUtf8-append old (map (cleaned_byte after_key) piece) (IsUtf8-had old before) (cleaned_utf8 after_key piece here))

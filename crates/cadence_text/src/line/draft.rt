@@ -1,152 +1,40 @@
-//! The draft of a line: the line of a metric while tags and options are added to it, and the text of default tags.
+//! The draft of a line: the line of a metric while tags and options are added to it. `head` has the head with which a line
+//! begins, `tags` the tags at the end of a line and the text of default tags, and `text` the drafts whose value is a text.
 //!
 //! Every line that the library makes is made by a draft: the line of a plain call, of a builder, of a call in a
 //! schedule, of a C call and of the words of a command line.
 //!
 //! A clause `representable` is a fact about the arguments, for proofs: they are texts in UTF-8 and
 //! numbers in range.
+mod head;
+mod tags;
 mod text;
 
-ghost use Rattle.std.specs.Prelude.{◌≡◌, ◌+◌, ◌++◌, ◌<◌, ◌≤◌, [], IfOk, OnErr, OnOk, length};
-ghost use Rattle.std.specs.Prelude.{◌^◌, IfSome, IsUtf8, string_bytes};
+ghost use Rattle.std.specs.Prelude.{◌≡◌, ◌+◌, ◌++◌, ◌<◌, ◌≤◌, ◌^◌, [], IfOk, IsUtf8, OnErr, OnOk, length, string_bytes};
 ghost use Rattle.std.specs.Option.{option_copied};
-ghost use Rattle.cadence_text.specs.Draft.{draft_line, draft_of, lead, tags_text_with, with_tag_text};
-ghost use Rattle.cadence_text.specs.DraftParts.{IsCutAt, IsRepresentableHead, draft_of_head, plain_draft, text_of_head};
-ghost use Rattle.cadence_text.specs.Line.{container_field, line_of, tag_text, time_field};
+ghost use Rattle.cadence_text.specs.Cleaned.{container_as, tag_as, text_as};
+ghost use Rattle.cadence_text.specs.Draft.{draft_line, draft_of, with_tag_text};
+ghost use Rattle.cadence_text.specs.DraftParts.{IsRepresentableHead, draft_of_head, plain_draft, text_of_head};
+ghost use Rattle.cadence_text.specs.Line.{container_field, line_of, time_field};
 ghost use Rattle.cadence_text.specs.Metric.{Metric, with_tag};
 ghost use Rattle.cadence_text.specs.Record.{tag_of};
-ghost use Rattle.cadence_text.specs.MetricInMemory.{AreNumbersInMemory, IsTextInMemory};
 ghost use Rattle.cadence_text.specs.Representable.{IsRepresentableTag};
 ghost use Rattle.cadence_value.specs.Number.{IsDecimal};
-ghost use Rattle.cadence_value.specs.Takes.{Takes};
-ghost use Rattle.cadence_value.specs.Values.{numbers_of};
 
-use crate::line::MetricType;
-use crate::line::line_buf::{LengthCounter, LineBuf};
+use crate::line::line_buf::LineBuf;
 use crate::line::options::{Rate, insert_rate, last_room};
-use crate::line::pieces::{push_last, push_lead, push_tag};
+use crate::line::pieces::push_last_as;
 use crate::line::tag::Tag;
 use cadence_value::decimal::Decimal;
-use cadence_value::text::{PieceWriter, push_value};
-use cadence_value::value::MetricValue;
+use cadence_value::text::PieceWriter;
+pub use head::Head;
+use head::head_count;
+pub(crate) use head::push_head;
 use std::alloc::{AllocError, Allocator, Global};
 use std::marker::Model;
+pub use tags::TagsText;
+use tags::add_to;
 pub use text::{TextValue, is_member};
-
-/// The head of a line: the name, the numbers and the kind. The Rust crate has no such type.
-#[derive(Drop)]
-pub struct Head<'a, A: Allocator = Global> {
-    /// The first part of the name. It is written as it is, with its dot if it has one.
-    pub prefix: &'a str,
-    /// The second part of the name.
-    pub key: &'a str,
-    /// The numbers.
-    pub value: MetricValue<A>,
-    /// The kind, whose type text ends the head.
-    pub kind: MetricType,
-}
-
-// Without this hint a call of `bench count` takes 72 instructions more.
-#[inline(always)]
-#[tactic(auto, using(std::proofs::lemmas::Grind::common_steps))]
-pub(crate) fn push_head<S: PieceWriter, A: Allocator>(line: &mut S, head: &Head<'_, A>)
-    ensures taken { Takes S.ends_as line.old (text_of_head head.now) line.new }
-    ensures prefix { IsTextInMemory head.now.prefix.now }
-    ensures key { IsTextInMemory head.now.key.now }
-    ensures numbers { AreNumbersInMemory (numbers_of head.now.value) }
-{
-    line.take_piece(head.prefix);
-    line.take_piece(head.key);
-    line.take_byte(b':');
-    push_value(line, &head.value);
-    head.kind.push_to(line);
-}
-
-// Returns the length of a head in bytes.
-// Without this hint a call of `bench count` takes 28 instructions more.
-#[inline(always)]
-fn head_count<A: Allocator>(head: &Head<'_, A>) -> u128
-    ensures { result ≡ length (text_of_head head.now) }
-{
-    let mut counter = LengthCounter::new();
-    push_head(&mut counter, head);
-    counter.length()
-}
-
-// Returns how many bytes are enough for a tag and the characters before it. It returns `None` if the number passes
-// `usize::MAX`.
-fn tag_room(tag: &Tag<'_>) -> Option<usize>
-    ensures { IfSome result (λ n. length (tag_text (tag_of tag.now)) + 2 ≤ n) }
-{
-    let room = tag.text.len() + 3;
-    match tag.key {
-        Some(key) => key.len().checked_add(room),
-        None => Some(room),
-    }
-}
-
-// Writes a tag at the end of a line. `begun` says whether the line has a tag already. After an error the line is
-// unchanged.
-// Without this hint a call of `bench count_tags` takes 251 instructions more.
-#[inline(always)]
-fn add_to<A: Allocator>(line: &mut LineBuf<A>, begun: bool, tag: &Tag<'_>) -> Result<(), AllocError>
-    ensures ok { OnOk result (line.new.bytes.items ≡
-        line.old.bytes.items ++ (lead begun ++ tag_text (tag_of tag.now))) }
-    ensures utf8 { OnOk result (IsUtf8 (lead begun ++ tag_text (tag_of tag.now))) }
-    ensures representable { OnOk result (IsRepresentableTag (tag_of tag.now)) }
-    ensures err { OnErr result (line.new.bytes.items ≡ line.old.bytes.items) }
-{
-    let Some(room) = tag_room(tag) else {
-        return Err(AllocError);
-    };
-    line.reserve(room)?;
-    push_lead(line, begun);
-    push_tag(line, tag);
-    Ok(())
-}
-
-/// The tags of a line as text, with the `|#` before the first one. A client stores its default tags in this form, so
-/// that it can copy them to each line as they are. Contracts see the value as its text. The Rust crate has no such
-/// type.
-#[derive(Drop)]
-pub struct TagsText<A: Allocator = Global> {
-    line: LineBuf<A>,
-}
-
-impl<A: Allocator> Model for TagsText<A> {
-    ghost use Rattle.std.specs.Prelude.{ℕ, List};
-
-    ghost Value = { List ℕ };
-
-    ghost view = { λ t. t.line.bytes.items };
-}
-
-impl<A: Allocator> TagsText<A> {
-    /// Returns the text of no tags, which is empty. It takes no memory.
-    pub fn new(alloc: A) -> TagsText<A>
-        ensures { result ≡ [] }
-    {
-        TagsText {
-            line: LineBuf::empty(alloc),
-        }
-    }
-
-    /// Adds a tag at the end. After an error, which says that memory ran out, the text is unchanged.
-    pub fn add(&mut self, tag: Tag<'_>) -> Result<(), AllocError>
-        ensures ok { OnOk result (self.new ≡ tags_text_with self.old (tag_of tag.entry)) }
-        ensures err { OnErr result (self.new ≡ self.old) }
-    {
-        let begun = self.line.len() > 0;
-        add_to(&mut self.line, begun, &tag)
-    }
-
-    /// Returns the text.
-    pub fn as_str(&self) -> &str
-        ensures { result.now ≡ self.now }
-    {
-        self.line.as_text()
-    }
-}
 
 /// The draft of a line, to which tags and options can be added until the line is finished. The Rust crate has no such
 /// type.
@@ -160,6 +48,8 @@ pub struct DraftLine<'a, A: Allocator = Global> {
     container: Option<&'a str>,
     time: Option<u64>,
     rate: Option<Rate>,
+    // Whether the container is cleaned when it is written.
+    is_cleaned: bool,
 }
 
 impl<'a, A: Allocator> Model for DraftLine<'a, A> {
@@ -217,6 +107,7 @@ fn with_tags<'a, A: Allocator>(
         rate: None,
         container,
         time: None,
+        is_cleaned: false,
     }
 }
 
@@ -290,7 +181,23 @@ impl<'a, A: Allocator> DraftLine<'a, A> {
         ensures err { OnErr result (self.new ≡ self.old) }
     {
         let begun = self.line.len() > self.head;
-        add_to(&mut self.line, begun, &tag)
+        add_to(&mut self.line, begun, &tag, false)
+    }
+
+    /// Adds a tag as `add_tag` does, with cleaned texts (`cleaned`) if `is_cleaned` is set.
+    #[inline(always)]
+    #[tactic(auto, using(crate::proofs::writing::DraftText::tag_of_metric))]
+    pub fn add_tag_as(&mut self, tag: Tag<'_>, is_cleaned: bool) -> Result<(), AllocError>
+        ensures ok { OnOk result (self.new ≡
+            with_tag_text self.old (tag_as is_cleaned (tag_of tag.entry))) }
+        ensures metric { OnOk result ((m : Metric) → self.old ≡ draft_of m →
+            self.new ≡ draft_of (with_tag m (tag_as is_cleaned (tag_of tag.entry)))) }
+        ensures representable { OnOk result
+            (IsRepresentableTag (tag_as is_cleaned (tag_of tag.entry))) }
+        ensures err { OnErr result (self.new ≡ self.old) }
+    {
+        let begun = self.line.len() > self.head;
+        add_to(&mut self.line, begun, &tag, is_cleaned)
     }
 
     /// Sets the sampling rate, in place of an earlier one. The rate isn't checked to be between 0 and 1.
@@ -307,6 +214,17 @@ impl<'a, A: Allocator> DraftLine<'a, A> {
         ensures representable { IsUtf8 container.now }
     {
         self.container = Some(container);
+        self.is_cleaned = false;
+    }
+
+    /// Sets the id of the container as `set_container` does, cleaned (`cleaned`) if `is_cleaned` is set.
+    pub fn set_container_as(&mut self, container: &'a str, is_cleaned: bool)
+        ensures container { self.new ≡
+            record self.old { container = Some (text_as is_cleaned container.now) } }
+        ensures representable { IsUtf8 (text_as is_cleaned container.now) }
+    {
+        self.container = Some(container);
+        self.is_cleaned = is_cleaned;
     }
 
     /// Sets the timestamp (DogStatsD, in seconds since 1970), in place of an earlier one.
@@ -355,12 +273,13 @@ impl<'a, A: Allocator> DraftLine<'a, A> {
             rate,
             container,
             time,
+            is_cleaned,
         } = self;
         let mut line = line;
         if rate.is_some() {
             insert_rate(&mut line, head, &rate)?;
         }
-        end_with(&mut line, container, time)?;
+        end_with(&mut line, container, time, is_cleaned)?;
         Ok(line)
     }
 }
@@ -372,10 +291,12 @@ fn end_with<A: Allocator>(
     line: &mut LineBuf<A>,
     container: Option<&str>,
     time: Option<u64>,
+    is_cleaned: bool,
 ) -> Result<(), AllocError>
     requires { 0 < length line.old.bytes.items }
     ensures { OnOk result (line.new.bytes.items ≡ line.old.bytes.items
-        ++ (container_field (option_copied container.entry) ++ time_field time)) }
+        ++ (container_field (container_as is_cleaned (option_copied container.entry))
+        ++ time_field time)) }
 {
     if container.is_none() && time.is_none() {
         return Ok(());
@@ -384,6 +305,6 @@ fn end_with<A: Allocator>(
         return Err(AllocError);
     };
     line.reserve(room)?;
-    push_last(line, container, time);
+    push_last_as(line, container, time, is_cleaned);
     Ok(())
 }

@@ -5,7 +5,11 @@
 //! functions that reserve its room prove that this never happens.
 ghost use Rattle.std.specs.Prelude.{◌≡◌, ◌≤◌, ◌+◌, ◌++◌, ◌%◌, ◌^◌, [], IfOk, IsUtf8, OnOk, drop, length, string_bytes, take};
 ghost use Rattle.std.specs.Vec.{vec_capacity};
+ghost use Rattle.cadence_text.specs.Cleaned.{cleaned_text};
+ghost use Rattle.cadence_value.specs.InMemory.{IsTextInMemory};
+ghost use Rattle.cadence_value.specs.Takes.{Takes};
 
+use crate::line::cleaning::clean;
 use cadence_value::text::{ByteWriter, PieceWriter, number_len, wide_len};
 use std::alloc::{AllocError, Allocator};
 
@@ -82,7 +86,7 @@ pub(crate) struct LineBuf<A: Allocator> {
 }
 
 impl<A: Allocator> LineBuf<A> {
-    ghost use Rattle.cadence_text.specs.PieceWriters.{rotated_text};
+    ghost use Rattle.cadence_text.specs.PieceWriters.{cleaned_after, line_buf_ends, rotated_text};
 
     /// Returns an empty buffer of `length` bytes. It takes memory once, and only that much.
     pub(crate) fn with_room(alloc: A, length: usize) -> Result<LineBuf<A>, AllocError>
@@ -171,6 +175,33 @@ impl<A: Allocator> LineBuf<A> {
         ensures { string_bytes result ≡ self.bytes.items }
     {
         unsafe { String::from_utf8_unchecked(self.bytes) }
+    }
+
+    /// Writes a piece with an underscore in place of each separator. If the piece follows the key of a tag, colons stay.
+    // Without this hint a call of `bench count_tags` takes 9 instructions more, although it cleans no text.
+    #[inline(never)]
+    pub(crate) fn take_cleaned(&mut self, piece: &str, after_key: bool)
+        ensures taken { Takes line_buf_ends self.old (cleaned_text after_key piece.now) self.new }
+        ensures sized { IsTextInMemory piece.now }
+    {
+        if piece.len() > self.bytes.capacity() - self.bytes.len() {
+            return self.give_up();
+        }
+        let start = self.bytes.len();
+        let Ok(()) = self.bytes.extend_from_slice(piece.as_bytes()) else {
+            unreachable!()
+        };
+        self.clean_after(start, after_key);
+    }
+
+    // Puts an underscore in place of each separator after the first `start` bytes.
+    fn clean_after(&mut self, start: usize, after_key: bool)
+        requires within { start ≤ length self.old.bytes.items }
+        requires utf8 { IsUtf8 (cleaned_after start after_key self.old.bytes.items) }
+        ensures bytes { self.new.bytes.items ≡ cleaned_after start after_key self.old.bytes.items }
+        ensures end { self.new.end ≡ self.old.end }
+    {
+        clean(&mut self.bytes[start..], after_key);
     }
 
     // Empties the buffer.

@@ -1,18 +1,22 @@
 //! The functions that write the pieces of a line, in the order in which they are written.
-ghost use Rattle.std.specs.Prelude.{◌++◌, ◌^◌, ◌<◌, ◌≤◌, IfSome, Some, length, map};
+ghost use Rattle.std.specs.Prelude.{◌++◌, ◌^◌, ◌<◌, ◌≤◌, IfSome, Some, length, map, true};
 ghost use Rattle.std.specs.Option.{option_copied};
+ghost use Rattle.cadence_text.specs.Cleaned.{container_as, tag_as};
 ghost use Rattle.cadence_text.specs.Draft.{lead};
 ghost use Rattle.cadence_text.specs.Line.{container_field, rate_field, tag_text, tags_field, time_field};
 ghost use Rattle.cadence_value.specs.Number.{IsDecimal, number};
 ghost use Rattle.cadence_value.specs.InMemory.{IsTextInMemory};
 ghost use Rattle.cadence_value.specs.Takes.{Takes};
+ghost use Rattle.cadence_text.specs.PieceWriters.{line_buf_ends};
 ghost use Rattle.cadence_text.specs.Record.{tag_of};
 ghost use Rattle.cadence_text.specs.MetricInMemory.{AreTagsInMemory, IsTagInMemory, IsTimestamp};
 
+use crate::line::line_buf::LineBuf;
 use crate::line::tag::Tag;
 use cadence_value::decimal::Decimal;
-use cadence_value::text::{PieceWriter, push_number};
+use cadence_value::text::{ByteWriter, PieceWriter, push_number};
 use core::mem;
+use std::alloc::Allocator;
 
 // Writes what comes before a tag: a comma after another tag, and `|#` before the first one.
 // Without this hint a counter with tags of `bindings/c/speed.c` takes 13 instructions more.
@@ -39,6 +43,23 @@ pub(crate) fn push_tag<S: PieceWriter>(line: &mut S, tag: &Tag<'_>)
         line.take_byte(b':');
     }
     line.take_piece(tag.text);
+}
+
+// Writes a tag as it is, or with cleaned texts.
+#[inline(always)]
+pub(crate) fn push_tag_as<A: Allocator>(line: &mut LineBuf<A>, tag: &Tag<'_>, is_cleaned: bool)
+    ensures taken { Takes line_buf_ends line.old
+        (tag_text (tag_as is_cleaned (tag_of tag.now))) line.new }
+    ensures sized { IsTagInMemory (tag_of tag.now) }
+{
+    if !is_cleaned {
+        return push_tag(line, tag);
+    }
+    if let Some(key) = tag.key {
+        line.take_cleaned(key, false);
+        line.take_byte(b':');
+    }
+    line.take_cleaned(tag.text, tag.key.is_some());
 }
 
 // Returns the line with tags at its end. `mem::replace_with` moves the line into a local variable and back, so that the
@@ -89,6 +110,43 @@ pub(crate) fn push_last<S: PieceWriter>(line: &mut S, container: Option<&str>, t
         line.take_byte(b'T');
         line.take_number(time);
     }
+}
+
+// Writes the fields of a cleaned container and of a time. Few clients clean texts, so the path of the others has no
+// part of this.
+#[cold]
+#[inline(never)]
+fn push_cleaned_last<A: Allocator>(
+    line: &mut LineBuf<A>,
+    container: Option<&str>,
+    time: Option<u64>,
+)
+    ensures { Takes line_buf_ends line.old (container_field
+        (container_as true (option_copied container.entry)) ++ time_field time) line.new }
+{
+    if let Some(container) = container {
+        line.take_byte(b'|');
+        line.take_byte(b'c');
+        line.take_byte(b':');
+        line.take_cleaned(container, false);
+    }
+    push_last(line, None, time);
+}
+
+// Writes the fields of a container and a time. The container is written as it is, or cleaned.
+pub(crate) fn push_last_as<A: Allocator>(
+    line: &mut LineBuf<A>,
+    container: Option<&str>,
+    time: Option<u64>,
+    is_cleaned: bool,
+)
+    ensures { Takes line_buf_ends line.old (container_field
+        (container_as is_cleaned (option_copied container.entry)) ++ time_field time) line.new }
+{
+    if is_cleaned {
+        return push_cleaned_last(line, container, time);
+    }
+    push_last(line, container, time)
 }
 
 pub(crate) fn push_rate<S: PieceWriter>(line: &mut S, rate: Option<Decimal>)

@@ -25,7 +25,7 @@ fn has_no_flag(flags: &[u8; 256], byte: u8) -> bool
 }
 
 // Returns whether a byte is no separator.
-fn is_no_separator(byte: u8) -> bool
+pub(crate) fn is_no_separator(byte: u8) -> bool
     ensures { IsTrue result ↔ IsNoSeparator byte }
 {
     has_no_flag(&FLAGS, byte)
@@ -72,7 +72,7 @@ pub fn is_free(text: &[u8]) -> bool
 }
 
 // Returns whether a byte is no separator or a colon, so that it doesn't end a tag.
-fn is_no_tag_end(byte: u8) -> bool
+pub(crate) fn is_no_tag_end(byte: u8) -> bool
     ensures { IsTrue result ↔ IsNoTagEnd byte }
 {
     byte == b':' || is_no_separator(byte)

@@ -41,6 +41,11 @@ const CHECK: &[&str] = &["check", "w", "warning", "k:v"];
 
 const CHECK_LINE: &[u8] = b"_sc|w|1|h:h|#x,k:v|c:id\n";
 
+// The words of a gauge that is set below 0, and the two lines that are sent for them in one packet.
+const LEVEL: &[&str] = &["g", "b", "=-0.5", "k:v"];
+
+const LEVEL_LINES: &[u8] = b"p.b:0|g|#x,k:v|c:id\np.b:-0.5|g|#x,k:v|c:id";
+
 const FIELDS: Fields<'static> = Fields {
     host: Some("h"),
     key: None,
@@ -257,6 +262,8 @@ const ROWS: &[Row] = &[
     (EVENT, b"", &[], 0, EVENT_LINE, b""),
     (EVENT, b"", &[Answer::Refuse], 1, b"", REFUSED),
     (CHECK, b"", &SHORT, 0, CHECK_LINE, b""),
+    (LEVEL, b"", &[], 0, LEVEL_LINES, b""),
+    (LEVEL, b"", &[Answer::Refuse], 1, b"", REFUSED),
     (&["event", "t"], b"", &[], 2, b"", NO_EVENT),
     (&["check", "w"], b"", &[], 2, b"", NO_CHECK),
     (&["check", "w", "4"], b"", &[], 2, b"", NO_STATUS),
@@ -329,6 +336,7 @@ fn each_request_may_be_refused(rt: HostRuntime) -> Result<(), Fail> {
     assert!(rt; requests_may_be_refused(rt.alloc(), WORDS, LINE, 2)?);
     assert!(rt; requests_may_be_refused(rt.alloc(), EVENT, EVENT_LINE, 2)?);
     assert!(rt; requests_may_be_refused(rt.alloc(), CHECK, CHECK_LINE, 2)?);
+    assert!(rt; requests_may_be_refused(rt.alloc(), LEVEL, LEVEL_LINES, 2)?);
     Ok(())
 }
 

@@ -1,3 +1,4 @@
+use Rattle.std.specs.Option.{ok_or}
 use Rattle.std.proofs.Common.{sym}
 use Rattle.cadence_aggregate.specs.Held.{held_levels}
 use Rattle.cadence_aggregate.specs.Lines.{samples_of}
@@ -11,13 +12,13 @@ use Rattle.cadence_aggregate.proofs.levels.send_after.Goals as goal
 
 pub returns-in_err-flush_levels-clause-err : goal.returns-in_err-flush_levels-clause-err
 returns-in_err-flush_levels-clause-err g c =
-    on_err c.from_residual.result (same_of _ _ (sym c.in_err-flush_levels.ensures.same))
+    on_err (ok_or c.from_residual.result c.flush_levels.new.fault) (same_of _ _ (sym c.in_err-flush_levels.ensures.same))
 
 pub returns-clause-ok : goal.returns-clause-ok
 returns-clause-ok g c =
     let sent = g.S.LineSink.sent in
     let none = c.in_ok-flush_levels.ensures.ok in
-    rw none (map_ok c.send.result (sent_after (sent c.args.sink.now) (sent c.flush_levels.new.sink) (sent c.send.new.self) (held_levels c.args.levels.now.entries) (samples_of c.args.line)
+    rw none (map_ok (ok_or c.send.result c.send.new.fault) (sent_after (sent c.args.sink.now) (sent c.flush_levels.new.sink) (sent c.send.new.self) (held_levels c.args.levels.now.entries) (samples_of c.args.line)
     (rw none at c.in_ok-flush_levels.ensures.same)) c.send.ensures.ok)
 
 pub returns-in_err-flush_levels-clause-within : goal.returns-in_err-flush_levels-clause-within
@@ -33,4 +34,4 @@ returns-clause-within g c =
     let before : AreWithin most (sent c.flush_levels.new.sink) =
     sent_within most (sent c.args.sink.now) (sent c.flush_levels.new.sink) (held_levels c.args.levels.now.entries) (held_levels c.flush_levels.new.levels.entries)
     c.in_ok-flush_levels.ensures.same (levels_within most c.args.levels.now.entries) within in
-    either_reply c.send.result (λ h. AreWithin most h) (sent c.flush_levels.new.sink) (samples_of c.args.line) (sent c.send.new.self) c.send.ensures.ok c.send.ensures.err before (within_both most (sent c.flush_levels.new.sink) (samples_of c.args.line) before more)
+    either_reply (ok_or c.send.result c.send.new.fault) (λ h. AreWithin most h) (sent c.flush_levels.new.sink) (samples_of c.args.line) (sent c.send.new.self) c.send.ensures.ok c.send.ensures.err before (within_both most (sent c.flush_levels.new.sink) (samples_of c.args.line) before more)

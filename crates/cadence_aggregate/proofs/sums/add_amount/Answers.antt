@@ -1,3 +1,4 @@
+use Rattle.std.specs.Option.{ok_or}
 use Rattle.std.specs.Prelude.{String, string_bytes}
 use Rattle.std.proofs.Common.{◌≡◌, ◌++◌, ◌∷◌, ◌<◌, [], length, refl, rules, sym, ap, ◌∙◌, arith}
 use Rattle.std.specs.Prelude.{◌+ℤ◌, ℤ}
@@ -20,7 +21,7 @@ returns-in_err-send-in-None-clause-err g c =
     let t : String Global → Bool = has_context c.args.context.now in
     let found = sym c.in-Some.ensures.value in
     let said = g.S.LineSink.sent c.args.sink.now in
-    on_err c.from_residual.result (rw c.in_err-send-in-None.ensures.err
+    on_err (ok_or c.from_residual.result c.send.new.fault) (rw c.in_err-send-in-None.ensures.err
     (sums_placed t _ said c.args.sums.now.entries c.in-Some.sum.now c.in-Some.sum.now found
     (unwritten t c.args.context.now (its_context c.args.context.now) said c.args.sums.now.entries c.in-Some.sum.now c.args.by found)))
 
@@ -58,13 +59,13 @@ returns-clause-ok g c =
           let s = w.in_ok-send_oldest.ensures in
           let room = room_after c.args.context.now old c.if-len-get.sums (w.sums-is ∙ s.ok) c.len.ensures.valid.1 c.len.ensures.valid.2 none in
           let h : g.S.LineSink.sent c.if-len-get.sink ++ held_sums c.if-len-get.sums.entries ≡ said ++ held_sums old.entries = rw (w.sums-is, w.sink-is) s.same in
-          let e = put_said say c.args.context.now c.if-len-get.sums c.put.new.self c.in_ok-key.key c.args.by said (g.S.LineSink.sent c.if-len-get.sink) old.entries room.1 c.in_ok-key.ensures.ok room.0 h (rw by at c.in_ok-put.ensures.entries) in
+          let e = put_said say c.args.context.now c.if-len-get.sums c.put_entry.new.table c.in_ok-key.key c.args.by said (g.S.LineSink.sent c.if-len-get.sink) old.entries room.1 c.in_ok-key.ensures.ok room.0 h (rw by at c.in_ok-put_entry.ensures.entries) in
           same_of _ _ (sym (e ∙ ap (λ t. (said ++ held_sums old.entries) ++ amount t c.args.by ∷ []) c.in_ok-key.ensures.ok))
       | else-len-get w ↦
           let room : length old.entries < old.cap = omega (arith, c.len.ensures.valid.1) in
           let same : c.if-len-get.sums ≡ old = w.sums-is in
           let h : g.S.LineSink.sent c.if-len-get.sink ++ held_sums c.if-len-get.sums.entries ≡ said ++ held_sums old.entries = rw (w.sums-is, w.sink-is) refl in
-          let e = put_said say c.args.context.now c.if-len-get.sums c.put.new.self c.in_ok-key.key c.args.by said (g.S.LineSink.sent c.if-len-get.sink) old.entries (rw same none) c.in_ok-key.ensures.ok (rw same room) h (rw by at c.in_ok-put.ensures.entries) in
+          let e = put_said say c.args.context.now c.if-len-get.sums c.put_entry.new.table c.in_ok-key.key c.args.by said (g.S.LineSink.sent c.if-len-get.sink) old.entries (rw same none) c.in_ok-key.ensures.ok (rw same room) h (rw by at c.in_ok-put_entry.ensures.entries) in
           same_of _ _ (sym (e ∙ ap (λ t. (said ++ held_sums old.entries) ++ amount t c.args.by ∷ []) c.in_ok-key.ensures.ok))
     ]
 
@@ -72,8 +73,8 @@ pub returns-in_ok-send-in-None-clause-within : goal.returns-in_ok-send-in-None-c
 returns-in_ok-send-in-None-clause-within g c =
     λ most within. rw c.in_ok-send-in-None.ensures.ok (within_both most (g.S.LineSink.sent c.args.sink.now) _ within tt)
 
-pub returns-in_err-put-clause-within : goal.returns-in_err-put-clause-within
-returns-in_err-put-clause-within g c =
+pub returns-in_err-put_entry-clause-within : goal.returns-in_err-put_entry-clause-within
+returns-in_err-put_entry-clause-within g c =
     elim c.if-len-get.branch [
       | then-len-get+in_ok-send_oldest w ↦ rw w.sink-is w.in_ok-send_oldest.ensures.within
       | else-len-get w ↦ rw w.sink-is (λ most within. within)

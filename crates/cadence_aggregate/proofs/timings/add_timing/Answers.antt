@@ -1,3 +1,4 @@
+use Rattle.std.specs.Option.{ok_or}
 use Rattle.std.specs.Prelude.{String, string_bytes}
 use Rattle.std.proofs.Common.{◌≡◌, ◌++◌, ◌∷◌, ◌<◌, [], length, length-append, refl, sym, ap, ◌∙◌, arith, Global, Bool}
 use Rattle.cadence_aggregate.specs.Server.{Sample, timing}
@@ -14,19 +15,19 @@ use Rattle.cadence_aggregate.proofs.timings.add_timing.Goals.{then-len-get+in_ok
 pub returns-in_err-append_values-clause-err : goal.returns-in_err-append_values-clause-err
 returns-in_err-append_values-clause-err g c =
     let t : String Global → Bool = has_context c.args.context.now in
-    on_err c.from_residual.result (timings_placed t _ (g.S.LineSink.sent c.args.sink.now) c.args.timings.now.entries c.in-Some.text.now c.append_values.new.text (sym c.in-Some.ensures.value)
+    on_err (ok_or c.from_residual.result c.append_values.new.fault) (timings_placed t _ (g.S.LineSink.sent c.args.sink.now) c.args.timings.now.entries c.in-Some.text.now c.append_values.new.text (sym c.in-Some.ensures.value)
     (unwritten t c.args.context.now (its_context c.args.context.now) (g.S.LineSink.sent c.args.sink.now) c.args.timings.now.entries c.in-Some.text.now c.append_values.new.text (sym c.in-Some.ensures.value) c.in_err-append_values.ensures.err))
 
 pub returns-in_err-fresh-clause-err : goal.returns-in_err-fresh-clause-err
 returns-in_err-fresh-clause-err g c =
     let t : String Global → Bool = has_context c.args.context.now in
-    on_err c.from_residual-in_err-fresh.result (timings_placed t _ (g.S.LineSink.sent c.args.sink.now) c.args.timings.now.entries c.in-Some.text.now c.in-Some.text.now (sym c.in-Some.ensures.value)
+    on_err (ok_or c.from_residual-in_err-fresh.result c.copy_text.new.fault) (timings_placed t _ (g.S.LineSink.sent c.args.sink.now) c.args.timings.now.entries c.in-Some.text.now c.in-Some.text.now (sym c.in-Some.ensures.value)
     (unwritten t c.args.context.now (its_context c.args.context.now) (g.S.LineSink.sent c.args.sink.now) c.args.timings.now.entries c.in-Some.text.now c.in-Some.text.now (sym c.in-Some.ensures.value) refl))
 
 pub returns-in_err-send-clause-err : goal.returns-in_err-send-clause-err
 returns-in_err-send-clause-err g c =
     let t : String Global → Bool = has_context c.args.context.now in
-    on_err c.from_residual-in_err-send.result (rw c.in_err-send.ensures.err (timings_placed t _ (g.S.LineSink.sent c.args.sink.now) c.args.timings.now.entries c.in-Some.text.now c.in-Some.text.now (sym c.in-Some.ensures.value)
+    on_err (ok_or c.from_residual-in_err-send.result c.send.new.fault) (rw c.in_err-send.ensures.err (timings_placed t _ (g.S.LineSink.sent c.args.sink.now) c.args.timings.now.entries c.in-Some.text.now c.in-Some.text.now (sym c.in-Some.ensures.value)
     (unwritten t c.args.context.now (its_context c.args.context.now) (g.S.LineSink.sent c.args.sink.now) c.args.timings.now.entries c.in-Some.text.now c.in-Some.text.now (sym c.in-Some.ensures.value) refl)))
 
 pub returns-in_ok-append_values-clause-ok : goal.returns-in_ok-append_values-clause-ok
@@ -53,37 +54,37 @@ returns-clause-ok g c =
           let s = w.in_ok-send_oldest.ensures in
           let room = room_after c.args.context.now old c.if-len-get.timings (w.timings-is ∙ s.ok) c.len.ensures.valid.1 c.len.ensures.valid.2 none in
           let h : g.S.LineSink.sent c.if-len-get.sink ++ held_timings c.if-len-get.timings.entries ≡ said ++ held_timings old.entries = rw (w.timings-is, w.sink-is) s.same in
-          let e = put_said say c.args.context.now c.if-len-get.timings c.put.new.self c.in_ok-key.key c.in_ok-text.text said (g.S.LineSink.sent c.if-len-get.sink) old.entries room.1 c.in_ok-key.ensures.ok room.0 h c.in_ok-put.ensures.entries in
+          let e = put_said say c.args.context.now c.if-len-get.timings c.put_entry.new.table c.in_ok-key.key c.in_ok-text.text said (g.S.LineSink.sent c.if-len-get.sink) old.entries room.1 c.in_ok-key.ensures.ok room.0 h c.in_ok-put_entry.ensures.entries in
           same_of _ _ (sym (e ∙ ap (λ t. (said ++ held_timings old.entries) ++ timing t (string_bytes c.in_ok-text.text) ∷ []) c.in_ok-key.ensures.ok ∙ ap (λ t. (said ++ held_timings old.entries) ++ timing c.args.context.now t ∷ []) c.in_ok-text.ensures.ok))
       | else-len-get w ↦
           let room : length old.entries < old.cap = omega (arith, c.len.ensures.valid.1) in
           let same : c.if-len-get.timings ≡ old = w.timings-is in
           let h : g.S.LineSink.sent c.if-len-get.sink ++ held_timings c.if-len-get.timings.entries ≡ said ++ held_timings old.entries = rw (w.timings-is, w.sink-is) refl in
-          let e = put_said say c.args.context.now c.if-len-get.timings c.put.new.self c.in_ok-key.key c.in_ok-text.text said (g.S.LineSink.sent c.if-len-get.sink) old.entries (rw same none) c.in_ok-key.ensures.ok (rw same room) h c.in_ok-put.ensures.entries in
+          let e = put_said say c.args.context.now c.if-len-get.timings c.put_entry.new.table c.in_ok-key.key c.in_ok-text.text said (g.S.LineSink.sent c.if-len-get.sink) old.entries (rw same none) c.in_ok-key.ensures.ok (rw same room) h c.in_ok-put_entry.ensures.entries in
           same_of _ _ (sym (e ∙ ap (λ t. (said ++ held_timings old.entries) ++ timing t (string_bytes c.in_ok-text.text) ∷ []) c.in_ok-key.ensures.ok ∙ ap (λ t. (said ++ held_timings old.entries) ++ timing c.args.context.now t ∷ []) c.in_ok-text.ensures.ok))
     ]
 
 pub returns-in_err-append_values-clause-within : goal.returns-in_err-append_values-clause-within
 returns-in_err-append_values-clause-within g c =
     let t : String Global → Bool = has_context c.args.context.now in
-    timings_stay t ((g.S.LineSink.sent c.args.sink.now ++ held_timings c.args.timings.now.entries) ++ if_ok c.from_residual.result (timing c.args.context.now c.args.values.now ∷ [])) (g.S.LineSink.sent c.args.sink.now) c.args.most c.args.timings.now.entries c.in-Some.text.now c.append_values.new.text (sym c.in-Some.ensures.value)
+    timings_stay t ((g.S.LineSink.sent c.args.sink.now ++ held_timings c.args.timings.now.entries) ++ if_ok (ok_or c.from_residual.result c.append_values.new.fault) (timing c.args.context.now c.args.values.now ∷ [])) (g.S.LineSink.sent c.args.sink.now) c.args.most c.args.timings.now.entries c.in-Some.text.now c.append_values.new.text (sym c.in-Some.ensures.value)
     (unwritten_within t c.args.context.now (its_context c.args.context.now) c.args.timings.now.entries c.in-Some.text.now c.append_values.new.text (sym c.in-Some.ensures.value) c.args.most (g.S.LineSink.sent c.args.sink.now)
-    c.from_residual.result (timing c.args.context.now c.args.values.now ∷ []) c.in_err-append_values.ensures.err)
+    (ok_or c.from_residual.result c.append_values.new.fault) (timing c.args.context.now c.args.values.now ∷ []) c.in_err-append_values.ensures.err)
 
 pub returns-in_err-fresh-clause-within : goal.returns-in_err-fresh-clause-within
 returns-in_err-fresh-clause-within g c =
     let t : String Global → Bool = has_context c.args.context.now in
-    timings_stay t ((g.S.LineSink.sent c.args.sink.now ++ held_timings c.args.timings.now.entries) ++ if_ok c.from_residual-in_err-fresh.result (timing c.args.context.now c.args.values.now ∷ [])) (g.S.LineSink.sent c.args.sink.now) c.args.most c.args.timings.now.entries c.in-Some.text.now c.in-Some.text.now (sym c.in-Some.ensures.value)
+    timings_stay t ((g.S.LineSink.sent c.args.sink.now ++ held_timings c.args.timings.now.entries) ++ if_ok (ok_or c.from_residual-in_err-fresh.result c.copy_text.new.fault) (timing c.args.context.now c.args.values.now ∷ [])) (g.S.LineSink.sent c.args.sink.now) c.args.most c.args.timings.now.entries c.in-Some.text.now c.in-Some.text.now (sym c.in-Some.ensures.value)
     (unwritten_within t c.args.context.now (its_context c.args.context.now) c.args.timings.now.entries c.in-Some.text.now c.in-Some.text.now (sym c.in-Some.ensures.value) c.args.most (g.S.LineSink.sent c.args.sink.now)
-    c.from_residual-in_err-fresh.result (timing c.args.context.now c.args.values.now ∷ []) refl)
+    (ok_or c.from_residual-in_err-fresh.result c.copy_text.new.fault) (timing c.args.context.now c.args.values.now ∷ []) refl)
 
 pub returns-in_err-send-clause-within : goal.returns-in_err-send-clause-within
 returns-in_err-send-clause-within g c =
     let t : String Global → Bool = has_context c.args.context.now in
     rw c.in_err-send.ensures.err
-    (timings_stay t ((g.S.LineSink.sent c.args.sink.now ++ held_timings c.args.timings.now.entries) ++ if_ok c.from_residual-in_err-send.result (timing c.args.context.now c.args.values.now ∷ [])) (g.S.LineSink.sent c.args.sink.now) c.args.most c.args.timings.now.entries c.in-Some.text.now c.in-Some.text.now (sym c.in-Some.ensures.value)
+    (timings_stay t ((g.S.LineSink.sent c.args.sink.now ++ held_timings c.args.timings.now.entries) ++ if_ok (ok_or c.from_residual-in_err-send.result c.send.new.fault) (timing c.args.context.now c.args.values.now ∷ [])) (g.S.LineSink.sent c.args.sink.now) c.args.most c.args.timings.now.entries c.in-Some.text.now c.in-Some.text.now (sym c.in-Some.ensures.value)
     (unwritten_within t c.args.context.now (its_context c.args.context.now) c.args.timings.now.entries c.in-Some.text.now c.in-Some.text.now (sym c.in-Some.ensures.value) c.args.most (g.S.LineSink.sent c.args.sink.now)
-    c.from_residual-in_err-send.result (timing c.args.context.now c.args.values.now ∷ []) refl))
+    (ok_or c.from_residual-in_err-send.result c.send.new.fault) (timing c.args.context.now c.args.values.now ∷ []) refl))
 
 pub returns-in_ok-append_values-clause-within : goal.returns-in_ok-append_values-clause-within
 returns-in_ok-append_values-clause-within g c =
@@ -112,12 +113,12 @@ returns-clause-within g c =
           let s = w.in_ok-send_oldest.ensures in
           let room = room_after c.args.context.now old c.if-len-get.timings (w.timings-is ∙ s.ok) c.len.ensures.valid.1 c.len.ensures.valid.2 none in
           let h : g.S.LineSink.sent c.if-len-get.sink ++ held_timings c.if-len-get.timings.entries ≡ said ++ held_timings old.entries = rw (w.timings-is, w.sink-is) s.same in
-          let e = put_said say c.args.context.now c.if-len-get.timings c.put.new.self c.in_ok-key.key c.in_ok-text.text said (g.S.LineSink.sent c.if-len-get.sink) old.entries room.1 c.in_ok-key.ensures.ok room.0 h c.in_ok-put.ensures.entries in
+          let e = put_said say c.args.context.now c.if-len-get.timings c.put_entry.new.table c.in_ok-key.key c.in_ok-text.text said (g.S.LineSink.sent c.if-len-get.sink) old.entries room.1 c.in_ok-key.ensures.ok room.0 h c.in_ok-put_entry.ensures.entries in
           stay_same c.args.most _ _ (e ∙ ap (λ t. (said ++ held_timings old.entries) ++ timing t (string_bytes c.in_ok-text.text) ∷ []) c.in_ok-key.ensures.ok ∙ ap (λ t. (said ++ held_timings old.entries) ++ timing c.args.context.now t ∷ []) c.in_ok-text.ensures.ok)
       | else-len-get w ↦
           let room : length old.entries < old.cap = omega (arith, c.len.ensures.valid.1) in
           let same : c.if-len-get.timings ≡ old = w.timings-is in
           let h : g.S.LineSink.sent c.if-len-get.sink ++ held_timings c.if-len-get.timings.entries ≡ said ++ held_timings old.entries = rw (w.timings-is, w.sink-is) refl in
-          let e = put_said say c.args.context.now c.if-len-get.timings c.put.new.self c.in_ok-key.key c.in_ok-text.text said (g.S.LineSink.sent c.if-len-get.sink) old.entries (rw same none) c.in_ok-key.ensures.ok (rw same room) h c.in_ok-put.ensures.entries in
+          let e = put_said say c.args.context.now c.if-len-get.timings c.put_entry.new.table c.in_ok-key.key c.in_ok-text.text said (g.S.LineSink.sent c.if-len-get.sink) old.entries (rw same none) c.in_ok-key.ensures.ok (rw same room) h c.in_ok-put_entry.ensures.entries in
           stay_same c.args.most _ _ (e ∙ ap (λ t. (said ++ held_timings old.entries) ++ timing t (string_bytes c.in_ok-text.text) ∷ []) c.in_ok-key.ensures.ok ∙ ap (λ t. (said ++ held_timings old.entries) ++ timing c.args.context.now t ∷ []) c.in_ok-text.ensures.ok)
     ]

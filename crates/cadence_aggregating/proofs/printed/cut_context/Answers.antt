@@ -1,20 +1,14 @@
 use Rattle.std.proofs.Common.{◌≢◌, sym}
 use Rattle.std.proofs.lemmas.List.Elements.{recursion_from_All}
-use Rattle.cadence_aggregating.proofs.Spliced.{before_found, from_found, before_none, from_none}
+use Rattle.cadence_aggregating.proofs.Spliced.{field_cut}
 use Rattle.cadence_aggregating.proofs.printed.cut_context.Goals as goal
 
-pub returns-in-Some-clause-name : goal.returns-in-Some-clause-name
-returns-in-Some-clause-name c =
-    let s = c.in-Some in
-    rw s.ensures.whole (sym (before_found s.name.now s.fields.now (recursion_from_All (λ b. b ≢ 124) s.name.now s.ensures.front)))
+pub returns-clause-name : goal.returns-clause-name
+returns-clause-name c =
+    let cut = c.cut_text_field in
+    sym (field_cut c.args.context.now cut.result.0.now cut.result.1.now cut.ensures.whole (recursion_from_All (λ b. b ≢ 124) cut.result.0.now cut.ensures.front) cut.ensures.fields).0
 
-pub returns-in-Some-clause-fields : goal.returns-in-Some-clause-fields
-returns-in-Some-clause-fields c =
-    let s = c.in-Some in
-    rw s.ensures.whole (sym (from_found s.name.now s.fields.now (recursion_from_All (λ b. b ≢ 124) s.name.now s.ensures.front)))
-
-pub returns-in-None-clause-name : goal.returns-in-None-clause-name
-returns-in-None-clause-name c = sym (before_none c.args.context.now (recursion_from_All (λ b. b ≢ 124) c.args.context.now c.in-None.ensures.none))
-
-pub returns-in-None-clause-fields : goal.returns-in-None-clause-fields
-returns-in-None-clause-fields c = sym (from_none c.args.context.now (recursion_from_All (λ b. b ≢ 124) c.args.context.now c.in-None.ensures.none))
+pub returns-clause-fields : goal.returns-clause-fields
+returns-clause-fields c =
+    let cut = c.cut_text_field in
+    sym (field_cut c.args.context.now cut.result.0.now cut.result.1.now cut.ensures.whole (recursion_from_All (λ b. b ≢ 124) cut.result.0.now cut.ensures.front) cut.ensures.fields).1

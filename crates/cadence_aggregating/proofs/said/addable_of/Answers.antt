@@ -1,7 +1,7 @@
 use Rattle.std.proofs.Common.{rules, subst, ◌≡◌}
 use Rattle.cadence_read.proofs.OwnLines.{cut_once}
-use Rattle.cadence_read.specs.Cuts.{Parts}
-use Rattle.cadence_aggregating.specs.Additions.{IsAddable, IsAddition, parts_of_text}
+use Rattle.cadence_read.specs.Cuts.{Parts, parts_of_text}
+use Rattle.cadence_aggregating.specs.Additions.{IsAddable, IsAddition}
 use Rattle.cadence_aggregating.proofs.said.addable_of.Goals as goal
 
 pub returns-in_default : goal.returns-in_default

@@ -12,8 +12,8 @@ use Rattle.cadence_aggregating.proofs.said.addition_by.Goals as goal
 pub returns-in-Gauge : goal.returns-in-Gauge
 returns-in-Gauge c =
     let values = c.args.values.now in
-    subst (λ k. Finds (IsAdditionBy k values) c.if_numbers.result) (sym c.in-Gauge.is)
-    (addition_found values c.if_numbers.result Gauge Level (λ numbers. (refl, numbers)) (none_set values) c.if_numbers.ensures.some c.if_numbers.ensures.none)
+    subst (λ k. Finds (IsAdditionBy k values) c.if_number.result) (sym c.in-Gauge.is)
+    (addition_found values c.if_number.result Gauge Level (λ number. (refl, number)) (none_set values) c.if_number.ensures.some c.if_number.ensures.none)
 
 pub returns-in-Meter : goal.returns-in-Meter
 returns-in-Meter c = λ a h. none_metered c.args.values.now a (subst (λ k. IsAdditionBy k c.args.values.now a) c.in-Meter.is h)

@@ -1,6 +1,6 @@
 use Rattle.std.proofs.Common.{rules, ◌≡◌}
 use Rattle.cadence_text.specs.Line.{kind_text}
-use Rattle.cadence_aggregating.specs.Additions.{parts_of_text}
+use Rattle.cadence_read.specs.Cuts.{parts_of_text}
 use Rattle.cadence_aggregating.proofs.Saying.{no_kind, other_kind}
 use Rattle.cadence_aggregating.proofs.said.addition_of.Goals as goal
 

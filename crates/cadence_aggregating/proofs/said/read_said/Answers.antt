@@ -3,7 +3,8 @@ use Rattle.std.proofs.lemmas.Int.{to_z-of_z}
 use mir.Syntax.{w64}
 use mir.Val.{SFits}
 use Rattle.cadence_aggregate.specs.Server.{amount, level, timing}
-use Rattle.cadence_aggregating.specs.Additions.{IsAddition, context_of, parts_of_text}
+use Rattle.cadence_read.specs.Cuts.{parts_of_text}
+use Rattle.cadence_aggregating.specs.Additions.{IsAddition, context_of}
 use Rattle.cadence_aggregating.specs.Says.{LineSays}
 use Rattle.cadence_aggregating.proofs.Saying.{amount_said, level_said, member_said, said_added, timing_said}
 use Rattle.cadence_aggregating.proofs.said.read_said.Goals as goal

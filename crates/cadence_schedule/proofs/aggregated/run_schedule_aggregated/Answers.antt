@@ -44,10 +44,10 @@ returns-in-Ok-new-2-clause-headline g c =
     one_each few runs).all in (
       all,
       subst (λ a. HasAggregated history_of given (outcome_shown c.report_of.result) (held a) all) (sym ended.aggregator)
-          (subst (λ o. HasAggregated history_of given o (held run.recipient.lines.aggregator) all) (sym ended.outcome)
+          (subst (λ o. HasAggregated history_of given o (held run.stage.lines.aggregator) all) (sym ended.outcome)
           (has_aggregated kind_of history_of settings capacity ending queue policy steps writer law least first run replies new none_held
           c.new-sums.ensures.notes one_each few runs
-          (subst (λ o. length o.held ≤ run.recipient.sink.packing.packer.format.capacity) ended.outcome ended.held)
+          (subst (λ o. length o.held ≤ run.stage.sink.packing.packer.format.capacity) ended.outcome ended.held)
           (subst (λ o. o.stats.bytes_sent < 2 ^ 64) ended.outcome ended.bytes_sent)
           (subst (λ o. o.stats.packets_sent < 2 ^ 64) ended.outcome ended.packets_sent))),
     )

@@ -20,7 +20,7 @@ loop-step-preserved g c =
     let answer = c.step-reply.result in
     let before = c.loop-step.invariant in
     let call = c.step-reply.ensures in
-    let leads = g.S.Recipient.leads in
+    let leads = g.S.Stage.step in
     let short : length (take i steps) ≡ length replies = length-take-le i steps (omega arith) ∙ sym before.count in
     let more : take (i + 1) steps ≡ take i steps ++ one ∷ [] = take_more steps i one c.loop-step-test.true ∙ ap (λ s. take i steps ++ s ∷ []) (sym c.step-item.is) in
     let turns : zip (take (i + 1) steps) c.push.new.self.items ≡ zip (take i steps) replies ++ (one, answer) ∷ [] =
@@ -28,9 +28,8 @@ loop-step-preserved g c =
     record {
       count = omega (arith, ap (λ l. length l) c.in-Ok.ensures.items, length_push replies answer, before.count);
       replies_room = omega (arith, c.in-Ok.ensures.capacity, before.replies_room);
-      room = omega (arith, call.room, before.room);
-      runs = subst (λ ts. Runs leads (line_of_data c.args.settings.now) c.args.queue.capacity c.args.queue.policy c.args.recipient c.step-reply.new.self ts) (sym turns)
-          (runs_more (line_of_data c.args.settings.now) c.args.queue.capacity c.args.queue.policy leads c.args.recipient c.loop-step.running c.step-reply.new.self (zip (take i steps) replies) (one, answer)
+      runs = subst (λ ts. Runs leads (line_of_data c.args.settings.now) c.args.queue.capacity c.args.queue.policy c.args.stage c.step-reply.new.self ts) (sym turns)
+          (runs_more (line_of_data c.args.settings.now) c.args.queue.capacity c.args.queue.policy leads c.args.stage c.loop-step.running c.step-reply.new.self (zip (take i steps) replies) (one, answer)
           before.runs call.queue call.leads);
       representable =
           accepted_push IsRepresentable (metric_of_data c.args.settings.now) (take i steps) (take (i + 1) steps) replies c.push.new.self.items one
@@ -41,7 +40,6 @@ pub loop-step-init : goal.loop-step-init
 loop-step-init g c = record {
   count = ap (λ l. length l) c.requires.replies.0;
   replies_room = c.requires.replies.1;
-  room = omega (arith, c.requires.room);
   runs = record {
     given = [];
     goes = (

@@ -11,8 +11,7 @@ invariant-loop-step g l =
     record {
       count : length l.replies.items ≡ l.step-index;
       replies_room : length l.steps ≤ vec_capacity l.replies;
-      room : length l.steps ≤ g.S.Recipient.room l.running.recipient + l.step-index;
-      runs : Runs g.S.Recipient.leads (line_of_data l.settings) l.fn.queue.capacity l.fn.queue.policy l.fn.recipient l.running
+      runs : Runs g.S.Stage.step (line_of_data l.settings) l.fn.queue.capacity l.fn.queue.policy l.fn.stage l.running
           (zip (take l.step-index l.steps) l.replies.items);
       representable : All IsRepresentable (accepted (metric_of_data l.settings) (zip (take l.step-index l.steps) l.replies.items));
     }

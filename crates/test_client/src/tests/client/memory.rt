@@ -44,14 +44,22 @@ fn is_line<M: Metric + Drop>(
     Ok(is_sent)
 }
 
-// Makes a plain call, or one with a tag of its own. Returns whether there was memory for it. One kind is enough,
-// because one function of the library sends the metrics of all kinds.
-fn sends(client: &Client, with_tag: bool) -> Result<bool, Fail> {
-    if with_tag {
-        let call = client.gauge_with_tags("k", 8u64).with_tag("d", "e");
-        return is_line(client, call.try_send(), "p.k:8|g|#a:b,c,d:e|c:id");
+// Makes the call with this number: a plain one, one with a tag of its own, or one whose value is a text. Returns whether
+// there was memory for it. One kind of numbers is enough, because one function of the library sends the metrics of all
+// kinds.
+fn sends(client: &Client, number: u8) -> Result<bool, Fail> {
+    match number {
+        0 => is_line(client, client.count("k", 3i64), "p.k:3|c|#a:b,c|c:id"),
+        1 => {
+            let call = client.gauge_with_tags("k", 8u64).with_tag("d", "e");
+            is_line(client, call.try_send(), "p.k:8|g|#a:b,c,d:e|c:id")
+        }
+        _ => is_line(
+            client,
+            client.set_text("k", "alice"),
+            "p.k:alice|s|#a:b,c|c:id",
+        ),
     }
-    is_line(client, client.count("k", 3i64), "p.k:3|c|#a:b,c|c:id")
 }
 
 // Makes a call whose tags need more memory than the line had reserved. Its rate comes before the tags. Returns whether
@@ -69,8 +77,7 @@ fn sends_long_line(client: &Client, tag: &str) -> Result<bool, Fail> {
     )
 }
 
-// Makes a client and a call: a plain one, one with a tag, or one whose line grows. Returns whether there was memory for
-// both.
+// Makes a client and a call: one of `sends`, or one whose line grows. Returns whether there was memory for both.
 fn makes_client_and_sends(
     alloc: Global,
     heap: &RefusingAllocator<Global>,
@@ -78,7 +85,7 @@ fn makes_client_and_sends(
     tag: &str,
 ) -> Result<bool, Fail> {
     match make_client(heap, make_counter(alloc)?) {
-        Ok(client) if number < 2 => sends(&client, number == 1),
+        Ok(client) if number < 3 => sends(&client, number),
         Ok(client) => sends_long_line(&client, tag),
         Err(error) => is_made::<Client>(Err(error)),
     }
@@ -89,12 +96,40 @@ fn makes_client_and_sends(
 fn a_call_is_sent_or_refused(rt: HostRuntime) -> Result<(), Fail> {
     let alloc = rt.alloc();
     let tag = "f".repeat(alloc, 60)?;
-    for (number, requests) in [(0, 9), (1, 9), (2, 10)] {
+    for (number, requests) in [(0, 9), (1, 9), (2, 9), (3, 10)] {
         let granted = each_refused(alloc, |heap| {
             makes_client_and_sends(alloc, &heap, number, &tag)
         })?;
         assert_eq!(rt; granted, Some(requests));
     }
+    Ok(())
+}
+
+// Makes a client that cleans texts, and a call with a separator in each of its texts. Returns whether there was memory for
+// both.
+fn makes_cleaned_call(alloc: Global, heap: &RefusingAllocator<Global>) -> Result<bool, Fail> {
+    let calls = make_counter(alloc)?;
+    let made = StatsdClient::builder(heap.clone()?, "p:", CountingSink { calls })
+        .with_tag("a", "b|c")
+        .with_container_id("id")
+        .with_cleaned_texts()
+        .build();
+    match made {
+        Ok(client) => {
+            let call = client.incr_with_tags("k|").with_tag("d:", "e,f");
+            let sent = call.with_container_id("i:d").try_send();
+            is_line(&client, sent, "p_.k_:1|c|#a:b_c,d_:e_f|c:i_d")
+        }
+        Err(error) => is_made::<Client>(Err(error)),
+    }
+}
+
+// The client takes twelve requests, the cleaned key of the call one, and the line one.
+#[test]
+fn a_cleaned_call_is_sent_or_refused(rt: HostRuntime) -> Result<(), Fail> {
+    let alloc = rt.alloc();
+    let granted = each_refused(alloc, |heap| makes_cleaned_call(alloc, &heap))?;
+    assert_eq!(rt; granted, Some(14));
     Ok(())
 }
 

@@ -10,7 +10,7 @@ loop-tag-preserved g c =
     let added = c.with_default-builder.ensures in (
       makes_next tag_of_owned c.args.tags.now c.loop-tag.tag-index c.tag-item.result (tag_of c.lend_tag.result) (settings_of c.args.prefix.now) _ _
           c.loop-tag-test.true
-          c.tag-item.is c.lend_tag.ensures refl c.loop-tag.invariant.0 added.settings,
+          c.tag-item.is c.lend_tag.ensures refl refl c.loop-tag.invariant.0 added.settings,
       added.sink ∙ c.loop-tag.invariant.1,
     )
 

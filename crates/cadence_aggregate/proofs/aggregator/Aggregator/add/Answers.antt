@@ -1,3 +1,4 @@
+use Rattle.std.specs.Option.{ok_or}
 use Rattle.std.proofs.Common.{◌∷◌, [], refl, rules}
 use Rattle.std.proofs.lemmas.Int.{to_z-of_z}
 use mir.Syntax.{w64}
@@ -14,14 +15,14 @@ returns-in-Amount-clause-ok g c =
     let sent = g.S.LineSink.sent in
     let said = amount c.in-Amount.context.now c.in-Amount.by ∷ [] in
     let fits : SFits w64 c.in-Amount.by = search rules in
-    rw c.in-Amount.is (map_ok c.add_amount.result (λ same. said_in_turn a.due (sent c.args.sink.now) (sent c.add_amount.new.sink) said a.sums.entries c.add_amount.new.sums.entries a.levels.entries a.levels.entries a.members.entries a.members.entries a.timings.entries a.timings.entries
+    rw c.in-Amount.is (map_ok (ok_or c.add_amount.result c.add_amount.new.fault) (λ same. said_in_turn a.due (sent c.args.sink.now) (sent c.add_amount.new.sink) said a.sums.entries c.add_amount.new.sums.entries a.levels.entries a.levels.entries a.members.entries a.members.entries a.timings.entries a.timings.entries
     (sums_said (sent c.args.sink.now) (sent c.add_amount.new.sink) a.sums.entries a.levels.entries a.members.entries a.timings.entries c.add_amount.new.sums.entries said ((λ ours. refl), refl) same)) (rw (to_z-of_z w64 c.in-Amount.by fits) at c.add_amount.ensures.ok))
 
 pub returns-in-Amount-clause-err : goal.returns-in-Amount-clause-err
 returns-in-Amount-clause-err g c =
     let a = c.args.self.now in
     let sent = g.S.LineSink.sent in
-    map_err c.add_amount.result (λ same. kept_in_turn a.due (sent c.args.sink.now) (sent c.add_amount.new.sink) [] a.sums.entries c.add_amount.new.sums.entries a.levels.entries a.levels.entries a.members.entries a.members.entries a.timings.entries a.timings.entries
+    map_err (ok_or c.add_amount.result c.add_amount.new.fault) (λ same. kept_in_turn a.due (sent c.args.sink.now) (sent c.add_amount.new.sink) [] a.sums.entries c.add_amount.new.sums.entries a.levels.entries a.levels.entries a.members.entries a.members.entries a.timings.entries a.timings.entries
     (sums_kept (sent c.args.sink.now) (sent c.add_amount.new.sink) a.sums.entries a.levels.entries a.members.entries a.timings.entries c.add_amount.new.sums.entries same)) c.add_amount.ensures.err
 
 pub returns-in-Level-clause-ok : goal.returns-in-Level-clause-ok
@@ -29,14 +30,14 @@ returns-in-Level-clause-ok g c =
     let a = c.args.self.now in
     let sent = g.S.LineSink.sent in
     let said = level c.in-Level.context.now c.in-Level.value.now ∷ [] in
-    rw c.in-Level.is (map_ok c.set_level.result (λ same. said_in_turn a.due (sent c.args.sink.now) (sent c.set_level.new.sink) said a.sums.entries a.sums.entries a.levels.entries c.set_level.new.levels.entries a.members.entries a.members.entries a.timings.entries a.timings.entries
+    rw c.in-Level.is (map_ok (ok_or c.set_level.result c.set_level.new.fault) (λ same. said_in_turn a.due (sent c.args.sink.now) (sent c.set_level.new.sink) said a.sums.entries a.sums.entries a.levels.entries c.set_level.new.levels.entries a.members.entries a.members.entries a.timings.entries a.timings.entries
     (levels_said (sent c.args.sink.now) (sent c.set_level.new.sink) a.sums.entries a.levels.entries a.members.entries a.timings.entries c.set_level.new.levels.entries said same)) c.set_level.ensures.ok)
 
 pub returns-in-Level-clause-err : goal.returns-in-Level-clause-err
 returns-in-Level-clause-err g c =
     let a = c.args.self.now in
     let sent = g.S.LineSink.sent in
-    map_err c.set_level.result (λ same. kept_in_turn a.due (sent c.args.sink.now) (sent c.set_level.new.sink) [] a.sums.entries a.sums.entries a.levels.entries c.set_level.new.levels.entries a.members.entries a.members.entries a.timings.entries a.timings.entries
+    map_err (ok_or c.set_level.result c.set_level.new.fault) (λ same. kept_in_turn a.due (sent c.args.sink.now) (sent c.set_level.new.sink) [] a.sums.entries a.sums.entries a.levels.entries c.set_level.new.levels.entries a.members.entries a.members.entries a.timings.entries a.timings.entries
     (levels_kept (sent c.args.sink.now) (sent c.set_level.new.sink) a.sums.entries a.levels.entries a.members.entries a.timings.entries c.set_level.new.levels.entries same)) c.set_level.ensures.err
 
 pub returns-in-Member-clause-ok : goal.returns-in-Member-clause-ok
@@ -44,14 +45,14 @@ returns-in-Member-clause-ok g c =
     let a = c.args.self.now in
     let sent = g.S.LineSink.sent in
     let said = member c.in-Member.context.now ∷ [] in
-    rw c.in-Member.is (map_ok c.add_member.result (λ same. said_in_turn a.due (sent c.args.sink.now) (sent c.add_member.new.sink) said a.sums.entries a.sums.entries a.levels.entries a.levels.entries a.members.entries c.add_member.new.members.entries a.timings.entries a.timings.entries
+    rw c.in-Member.is (map_ok (ok_or c.add_member.result c.add_member.new.fault) (λ same. said_in_turn a.due (sent c.args.sink.now) (sent c.add_member.new.sink) said a.sums.entries a.sums.entries a.levels.entries a.levels.entries a.members.entries c.add_member.new.members.entries a.timings.entries a.timings.entries
     (members_said (sent c.args.sink.now) (sent c.add_member.new.sink) a.sums.entries a.levels.entries a.members.entries a.timings.entries c.add_member.new.members.entries said ((λ ours. refl), refl) same)) c.add_member.ensures.ok)
 
 pub returns-in-Member-clause-err : goal.returns-in-Member-clause-err
 returns-in-Member-clause-err g c =
     let a = c.args.self.now in
     let sent = g.S.LineSink.sent in
-    map_err c.add_member.result (λ same. kept_in_turn a.due (sent c.args.sink.now) (sent c.add_member.new.sink) [] a.sums.entries a.sums.entries a.levels.entries a.levels.entries a.members.entries c.add_member.new.members.entries a.timings.entries a.timings.entries
+    map_err (ok_or c.add_member.result c.add_member.new.fault) (λ same. kept_in_turn a.due (sent c.args.sink.now) (sent c.add_member.new.sink) [] a.sums.entries a.sums.entries a.levels.entries a.levels.entries a.members.entries c.add_member.new.members.entries a.timings.entries a.timings.entries
     (members_kept (sent c.args.sink.now) (sent c.add_member.new.sink) a.sums.entries a.levels.entries a.members.entries a.timings.entries c.add_member.new.members.entries same)) c.add_member.ensures.err
 
 pub returns-in-Timing-clause-ok : goal.returns-in-Timing-clause-ok
@@ -59,14 +60,14 @@ returns-in-Timing-clause-ok g c =
     let a = c.args.self.now in
     let sent = g.S.LineSink.sent in
     let said = timing c.in-Timing.context.now c.in-Timing.values.now ∷ [] in
-    rw c.in-Timing.is (map_ok c.add_timing.result (λ same. said_in_turn a.due (sent c.args.sink.now) (sent c.add_timing.new.sink) said a.sums.entries a.sums.entries a.levels.entries a.levels.entries a.members.entries a.members.entries a.timings.entries c.add_timing.new.timings.entries
+    rw c.in-Timing.is (map_ok (ok_or c.add_timing.result c.add_timing.new.fault) (λ same. said_in_turn a.due (sent c.args.sink.now) (sent c.add_timing.new.sink) said a.sums.entries a.sums.entries a.levels.entries a.levels.entries a.members.entries a.members.entries a.timings.entries c.add_timing.new.timings.entries
     (timings_said (sent c.args.sink.now) (sent c.add_timing.new.sink) a.sums.entries a.levels.entries a.members.entries a.timings.entries c.add_timing.new.timings.entries said ((λ ours. refl), refl) same)) c.add_timing.ensures.ok)
 
 pub returns-in-Timing-clause-err : goal.returns-in-Timing-clause-err
 returns-in-Timing-clause-err g c =
     let a = c.args.self.now in
     let sent = g.S.LineSink.sent in
-    map_err c.add_timing.result (λ same. kept_in_turn a.due (sent c.args.sink.now) (sent c.add_timing.new.sink) [] a.sums.entries a.sums.entries a.levels.entries a.levels.entries a.members.entries a.members.entries a.timings.entries c.add_timing.new.timings.entries
+    map_err (ok_or c.add_timing.result c.add_timing.new.fault) (λ same. kept_in_turn a.due (sent c.args.sink.now) (sent c.add_timing.new.sink) [] a.sums.entries a.sums.entries a.levels.entries a.levels.entries a.members.entries a.members.entries a.timings.entries c.add_timing.new.timings.entries
     (timings_kept (sent c.args.sink.now) (sent c.add_timing.new.sink) a.sums.entries a.levels.entries a.members.entries a.timings.entries c.add_timing.new.timings.entries same)) c.add_timing.ensures.err
 
 pub returns-in-Amount-clause-within : goal.returns-in-Amount-clause-within

@@ -1,3 +1,4 @@
+use Rattle.std.specs.Option.{ok_or}
 use Rattle.std.proofs.Common.{◌≡◌, ◌++◌, [], List, sym, ap, ◌∙◌, append_assoc, append-nil}
 use Rattle.cadence_aggregate.specs.Aggregate.{held_after, held_first}
 use Rattle.cadence_aggregate.specs.Held.{held_sums, held_levels, held_members, held_timings}
@@ -39,4 +40,4 @@ pub returns-clause-fewest : goal.returns-clause-fewest
 returns-clause-fewest g c =
     let a = c.args.self.now in
     let d = c.lengths.ensures.distinct in
-    on_ok c.send_due-2.result (λ ys same. fewest_in_turn a.due a.sums.entries a.levels.entries a.members.entries a.timings.entries ys same d.sums d.levels d.members)
+    on_ok (ok_or c.send_due-2.result c.send_due-2.new.fault) (λ ys same. fewest_in_turn a.due a.sums.entries a.levels.entries a.members.entries a.timings.entries ys same d.sums d.levels d.members)

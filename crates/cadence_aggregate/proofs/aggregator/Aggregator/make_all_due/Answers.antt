@@ -1,5 +1,5 @@
-use Rattle.std.proofs.Common.{◌≡◌, ◌++◌, [], sym, ap₂, ◌∙◌}
-use Rattle.std.specs.Prelude.{String, string_bytes, ℤ}
+use Rattle.std.proofs.Common.{◌++◌, sym, ap₂, ◌∙◌}
+use Rattle.std.specs.Prelude.{string_bytes}
 use Rattle.cadence_aggregate.specs.Held.{held_sums, held_levels, held_members, held_timings}
 use Rattle.cadence_aggregate.specs.Server.{amount, level, member, timing}
 use Rattle.cadence_aggregate.proofs.InTurn.{all_after}

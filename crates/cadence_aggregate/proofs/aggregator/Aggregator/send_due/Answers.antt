@@ -1,4 +1,4 @@
-use Rattle.std.proofs.Common.{◌≡◌, ◌++◌, [], List, take, sym, ap, ◌∙◌, append_assoc, append-nil}
+use Rattle.std.proofs.Common.{◌≡◌, ◌++◌, [], List, take, sym, ap, ◌∙◌, append_assoc, append-nil, rules}
 use Rattle.cadence_aggregate.specs.Server.{Sample}
 use Rattle.cadence_aggregate.specs.Held.{held_sums, held_levels, held_members, held_timings}
 use Rattle.cadence_aggregate.proofs.aggregator.Aggregator.send_due.Goals as goal
@@ -42,7 +42,8 @@ returns-in_err-send_due_members-clause-same g c =
 
 pub returns-in_err-send_due_members-clause-leads : goal.returns-in_err-send_due_members-clause-leads
 returns-in_err-send_due_members-clause-leads g c =
-    g.met.S.LineSink.leads_further _ _ _ (g.met.S.LineSink.leads_further _ _ _ c.in_ok-send_due_sums.ensures.leads c.in_ok-send_due_levels.ensures.leads) c.in_err-send_due_members.ensures.leads
+    let first = g.met.S.LineSink.leads_further _ _ _ _ c.in_ok-send_due_sums.ensures.leads c.in_ok-send_due_levels.ensures.leads in
+    search (rules, first, g.met.S.LineSink.leads_further)
 
 pub returns-clause-same : goal.returns-clause-same
 returns-clause-same g c =
@@ -67,6 +68,6 @@ returns-clause-same g c =
 
 pub returns-clause-leads : goal.returns-clause-leads
 returns-clause-leads g c =
-    g.met.S.LineSink.leads_further _ _ _
-    (g.met.S.LineSink.leads_further _ _ _ (g.met.S.LineSink.leads_further _ _ _ c.in_ok-send_due_sums.ensures.leads c.in_ok-send_due_levels.ensures.leads) c.in_ok-send_due_members.ensures.leads)
+    g.met.S.LineSink.leads_further _ _ _ _
+    (g.met.S.LineSink.leads_further _ _ _ _ (g.met.S.LineSink.leads_further _ _ _ _ c.in_ok-send_due_sums.ensures.leads c.in_ok-send_due_levels.ensures.leads) c.in_ok-send_due_members.ensures.leads)
     c.send_due_timings.ensures.leads

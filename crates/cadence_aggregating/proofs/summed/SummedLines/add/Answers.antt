@@ -3,9 +3,9 @@ use Rattle.cadence_aggregating.specs.Waiting.{notes_of}
 use Rattle.cadence_aggregating.proofs.Records.{quiet_waiting}
 use Rattle.cadence_aggregating.proofs.summed.SummedLines.add.Goals as goal
 
-pub returns-in-Ok-clause-quiet : goal.returns-in-Ok-clause-quiet
-returns-in-Ok-clause-quiet c =
+pub returns-in-Some-clause-quiet : goal.returns-in-Some-clause-quiet
+returns-in-Some-clause-quiet c =
     let old = c.args.self.now in
     let waiting = c.add.new.sink in
-    ∥∥₁_map c.in-Ok.ensures.quiet (quiet_waiting old.sums.limits old.sums.aggregator c.args.line.now old.waiting.gone.items waiting.gone.items
-    (notes_of old.waiting) (notes_of waiting) c.add.ensures.leads)
+    ∥∥₁_map c.in-Some.ensures.quiet (quiet_waiting old.sums.limits old.sums.aggregator c.args.line.now old.waiting.gone.items waiting.gone.items
+    (notes_of old.waiting) (notes_of waiting) c.add.ensures.leads.0)

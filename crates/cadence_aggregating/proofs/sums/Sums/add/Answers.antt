@@ -24,11 +24,11 @@ returns-clause-summary g c = λ past.
     let new = c.add_or_pass.new in
     let entry = c.of.result in
     let is_line : line_of_entry entry ≡ c.args.line.now = ap line_saying c.of.ensures in
-    let says : LineSays (line_of_entry entry) (sample_of c.in_ok-said.said) = subst (λ line. LineSays line (sample_of c.in_ok-said.said)) (sym is_line) c.in_ok-said.ensures in
+    let says : LineSays (line_of_entry entry) (sample_of c.in-Ok.said) = subst (λ line. LineSays line (sample_of c.in-Ok.said)) (sym is_line) c.in-Ok.ensures in
     rw c.and.ensures (∥∥₁_map past (λ p. past_more old.limits.most_bytes old.accepted.items entry
-    (g.S.LineSink.sent c.args.sink.now) (held old.aggregator) (g.S.LineSink.sent new.sink) (held new.aggregator) (sample_of c.in_ok-said.said) p
+    (g.S.LineSink.sent c.args.sink.now) (held old.aggregator) (g.S.LineSink.sent new.sink) (held new.aggregator) (sample_of c.in-Ok.said) p
     says c.in_ok-add_or_pass.ensures.ok (rw old.limit at c.in_ok-add_or_pass.ensures.within)))
 
 pub returns-clause-quiet : goal.returns-clause-quiet
 returns-clause-quiet g c =
-    ∣ (c.in_ok-said.said, c.in_ok-said.ensures, λ to_hold can. c.add_or_pass.ensures.quiet (c.holds-is_held.ensures.held to_hold) can) ∣₁
+    ∣ (c.in-Ok.said, c.in-Ok.ensures, λ to_hold can. c.add_or_pass.ensures.quiet (c.holds-is_held.ensures.held to_hold) can) ∣₁

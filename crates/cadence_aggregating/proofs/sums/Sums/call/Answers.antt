@@ -24,23 +24,23 @@ pub returns-clause-summary : goal.returns-clause-summary
 returns-clause-summary g c = λ past.
     let old = c.args.self.now in
     let new = c.add_or_pass.new in
-    let said = sample_of c.in_ok-said.said in
-    let is_line : line_of_entry c.of.result ≡ line_of_keyed c.args.call = ap line_saying c.of.ensures ∙ c.in_ok-said.ensures.line in
-    rw c.and.ensures (∥∥₁_elim c.in_ok-said.ensures.says ∥∥₁_prop (λ says. ∥∥₁_map past (λ p. past_more old.limits.most_bytes old.accepted.items c.of.result
+    let said = sample_of c.in-Ok.said in
+    let is_line : line_of_entry c.of.result ≡ line_of_keyed c.args.call = ap line_saying c.of.ensures ∙ c.in-Ok.ensures.line in
+    rw c.and.ensures (∥∥₁_elim c.in-Ok.ensures.says ∥∥₁_prop (λ says. ∥∥₁_map past (λ p. past_more old.limits.most_bytes old.accepted.items c.of.result
     (g.S.LineSink.sent c.args.sink.now) (held old.aggregator) (g.S.LineSink.sent new.sink) (held new.aggregator) said p
     (subst (λ line. LineSays line said) (sym is_line) says) c.in_ok-add_or_pass.ensures.ok (rw old.limit at c.in_ok-add_or_pass.ensures.within))))
 
 pub returns-clause-ok : goal.returns-clause-ok
 returns-clause-ok g c =
     ap lines_of_entries c.and.ensures
-    ∙ entry_more c.args.self.now.accepted.items c.of.result (line_of_keyed c.args.call) (ap line_saying c.of.ensures ∙ c.in_ok-said.ensures.line)
+    ∙ entry_more c.args.self.now.accepted.items c.of.result (line_of_keyed c.args.call) (ap line_saying c.of.ensures ∙ c.in-Ok.ensures.line)
 
 pub returns-clause-quiet : goal.returns-clause-quiet
 returns-clause-quiet g c =
     let old = c.args.self.now in
-    ∥∥₁_map c.in_ok-said.ensures.says (λ says. (
-      c.in_ok-said.said,
+    ∥∥₁_map c.in-Ok.ensures.says (λ says. (
+      c.in-Ok.said,
       says,
       λ to_hold can. c.add_or_pass.ensures.quiet
-          (c.holds-is_held.ensures.held (shorter_held old.limits c.in_ok-said.said (length c.context_of-context.result.now) (length (line_of_keyed c.args.call)) c.context_of-context.ensures to_hold)) can,
+          (c.holds-is_held.ensures.held (shorter_held old.limits c.in-Ok.said (length c.context_of-context.result.now) (length (line_of_keyed c.args.call)) c.context_of-context.ensures to_hold)) can,
     ))

@@ -1,7 +1,8 @@
-use Rattle.std.proofs.Common.{◌≡◌, ◌∙◌, rules, string_bytes, subst}
+use Rattle.std.proofs.Common.{◌≡◌, ◌∙◌, List, ap, rules, string_bytes, subst}
 use Rattle.std.specs.Option.{option_copied, option_map}
 use Rattle.std.specs.Prelude.{map}
 use Rattle.cadence_value.specs.Values.{numbers_of}
+use Rattle.cadence_text.specs.Cleaned.{text_as}
 use Rattle.cadence_text.specs.Draft.{draft_of}
 use Rattle.cadence_text.specs.Line.{tags_field}
 use Rattle.cadence_text.specs.Owned.{tag_of_owned}
@@ -14,11 +15,15 @@ use Rattle.cadence_settings.proofs.settings.ClientSettings.draft_in_buffer.Goals
 pub returns-clause-draft : goal.returns-clause-draft
 returns-clause-draft g c =
     let inside = c.self.inside in
-    let call = plain_call c.args.kind c.args.key.now (numbers_of c.args.value) in
+    let s = c.args.self.now in
+    let numbers = numbers_of c.args.value in
     let prefix : c.deref.result.now ≡ string_bytes inside.prefix = search rules in
     let tags : c.as_str-tags.result.now ≡ tags_field (map tag_of_owned inside.tags.items) = search rules in
     let container : option_copied c.default_container.result ≡ option_map string_bytes inside.container = search rules in
+    let key : c.as_str.result.now ≡ text_as s.cleaned c.args.key.now = search rules in
     let same =
-    draft_of_call (settings_seen inside) c.args.kind c.deref.result.now c.args.key.now c.as_str-tags.result.now (option_copied c.default_container.result)
-    (numbers_of c.args.value) prefix tags container in
-    subst (λ (s : Settings). c.in_ok-draft.draft ≡ draft_of (metric_of_call s call)) c.self.view_is (c.in_ok-draft.ensures.draft ∙ same)
+    draft_of_call (settings_seen inside) c.args.kind c.deref.result.now c.as_str.result.now c.as_str-tags.result.now (option_copied c.default_container.result)
+    numbers prefix tags container in
+    subst (λ (s : Settings). c.in_ok-draft.draft ≡ draft_of (metric_of_call s (plain_call c.args.kind c.as_str.result.now numbers))) c.self.view_is
+    (c.in_ok-draft.ensures.draft ∙ same)
+    ∙ ap (λ (k : List _). draft_of (metric_of_call s (plain_call c.args.kind k numbers))) key

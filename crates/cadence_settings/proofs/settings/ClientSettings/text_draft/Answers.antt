@@ -1,6 +1,7 @@
-use Rattle.std.proofs.Common.{◌≡◌, ◌∙◌, [], rules, string_bytes, subst}
+use Rattle.std.proofs.Common.{◌≡◌, ◌∙◌, [], List, ap, rules, string_bytes, subst}
 use Rattle.std.specs.Option.{option_copied, option_map}
 use Rattle.std.specs.Prelude.{map}
+use Rattle.cadence_text.specs.Cleaned.{text_as}
 use Rattle.cadence_text.specs.Draft.{draft_with}
 use Rattle.cadence_text.specs.Line.{tags_field}
 use Rattle.cadence_text.specs.Owned.{tag_of_owned}
@@ -14,13 +15,15 @@ use Rattle.cadence_settings.proofs.settings.ClientSettings.text_draft.Goals as g
 pub returns-clause-draft : goal.returns-clause-draft
 returns-clause-draft g c =
     let inside = c.self.inside in
+    let s = c.args.self.now in
     let value = c.args.value.now in
-    let call = plain_call (value_kind value) c.args.key.now [] in
     let prefix : c.deref.result.now ≡ string_bytes inside.prefix = search rules in
     let tags : c.as_str-tags.result.now ≡ tags_field (map tag_of_owned inside.tags.items) = search rules in
     let container : option_copied c.default_container-container.result ≡ option_map string_bytes inside.container = search rules in
+    let key : c.as_str.result.now ≡ text_as s.cleaned c.args.key.now = search rules in
     let same =
-    draft_of_value (settings_seen inside) (value_kind value) c.deref.result.now c.args.key.now (value_text value) c.as_str-tags.result.now
+    draft_of_value (settings_seen inside) (value_kind value) c.deref.result.now c.as_str.result.now (value_text value) c.as_str-tags.result.now
     (option_copied c.default_container-container.result) [] prefix tags container in
-    subst (λ (s : Settings). c.in_ok-draft.draft ≡ draft_with (value_text value) (metric_of_call s call)) c.self.view_is
-    (c.in_ok-draft.ensures ∙ same)
+    subst (λ (s : Settings). c.in_ok-draft.draft ≡ draft_with (value_text value) (metric_of_call s (plain_call (value_kind value) c.as_str.result.now [])))
+    c.self.view_is (c.in_ok-draft.ensures ∙ same)
+    ∙ ap (λ (k : List _). draft_with (value_text value) (metric_of_call s (plain_call (value_kind value) k []))) key

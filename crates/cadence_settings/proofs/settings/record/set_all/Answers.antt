@@ -11,7 +11,7 @@ loop-option-preserved g c =
     let one = c.option-item.result in
     let options = c.args.options.now in
     c.in_ok-set.ensures ∙ ap (λ m. chosen m (choice_of one)) c.loop-option.invariant
-    ∙ chosen_more c.args.metric.now (take i options) (take (i + 1) options) one
+    ∙ chosen_more choice_of c.args.metric.now (take i options) (take (i + 1) options) one
     (take_more options i one c.loop-option-test.true ∙ ap (λ o. take i options ++ o ∷ []) (sym c.option-item.is))
 
 pub returns : goal.returns

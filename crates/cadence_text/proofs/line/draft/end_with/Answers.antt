@@ -1,6 +1,8 @@
-use Rattle.std.proofs.Common.{◌≡◌, ◌+◌, [], ◌++◌, arith, length, rules}
+use Rattle.std.proofs.Common.{◌≡◌, ◌+◌, [], ◌++◌, arith, length, length-append, rules}
 use Rattle.std.specs.Option.{option_copied}
+use Rattle.cadence_text.specs.Cleaned.{container_as}
 use Rattle.cadence_text.specs.Line.{container_field, time_field}
+use Rattle.cadence_text.proofs.writing.CleanedPieces.{container_length}
 use Rattle.cadence_text.proofs.writing.WriterEnds.{filled_more}
 use Rattle.cadence_text.proofs.line.draft.end_with.Goals as goal
 
@@ -8,9 +10,18 @@ pub returns : goal.returns
 returns g c =
     let old = c.args.line.now.bytes.items in
     let begun = c.reserve.new.self in
-    let last = c.push_last.new.line in
-    let text = container_field (option_copied c.args.container) ++ time_field c.args.time in
-    let room : c.in-Some.room ≡ length text = search rules in
+    let last = c.push_last_as.new.line in
+    let container = option_copied c.args.container in
+    let text = container_field (container_as c.args.is_cleaned container) ++ time_field c.args.time in
+    let whole : c.in-Some.room ≡ length (container_field container ++ time_field c.args.time) = search rules in
+    let room : c.in-Some.room ≡ length text =
+    omega (
+      arith,
+      whole,
+      container_length c.args.is_cleaned container,
+      length-append (container_field container) (time_field c.args.time),
+      length-append (container_field (container_as c.args.is_cleaned container)) (time_field c.args.time),
+    ) in
     let end : begun.end ≡ length old + c.in-Some.room = search rules in
     filled_more begun.end last.end old begun.bytes.items last.bytes.items text (omega (arith, c.requires)) (omega (arith, room, end))
-    c.reserve.ensures.text (c.push_last.ensures.taken [])
+    c.reserve.ensures.text (c.push_last_as.ensures [])

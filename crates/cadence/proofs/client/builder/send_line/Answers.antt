@@ -1,5 +1,0 @@
-use Rattle.std.proofs.Common.{rules}
-use Rattle.cadence.proofs.client.builder.send_line.Goals as goal
-
-pub returns : goal.returns
-returns g c = ((c.in_ok-text.text, search rules, c.from.ensures), search rules)
