@@ -3,7 +3,8 @@
 //! The first part reads rows, and prints how many each file has, and each row with another outcome than it wants.
 //!
 //! - `data/calls`: every call of the client, for every type of its value, with each option, and clients with settings.
-//!   `rows` reads them, `calls` makes a call in each way, and `clients` has the clients.
+//!   `rows` reads them, `clients` has the clients, `calls` makes a call in each way, and `outcomes` compares what came
+//!   of it.
 //! - `data/sums`: lines that are added up, and what is sent of them. `sums` makes them.
 //! - `data/environment.rows`: variables of the environment. `environment` reads them; the tests of C, Rust and Python
 //!   read the same file. It also prints the message of each variable that can't be used.
@@ -40,6 +41,7 @@ mod clients;
 mod containers;
 mod environment;
 mod makers;
+mod outcomes;
 mod queues;
 mod record;
 mod rows;
@@ -102,7 +104,7 @@ fn wants_threads_alone(rt: &HostRuntime) -> MetricResult<bool> {
 
 // Returns what came of the rows of each file.
 fn report_rows<R: Runtime + Alloc + Files + Net>(rt: &R, alloc: Global) -> MetricResult<String> {
-    let mut text = clients::report(rt, alloc, &fs::read_to_string(rt, "calls")?)?;
+    let mut text = outcomes::report(rt, alloc, &fs::read_to_string(rt, "calls")?)?;
     text.push_str(&sums::report(rt, alloc, &fs::read_to_string(rt, "sums")?)?)?;
     let variables = fs::read_to_string(rt, "environment.rows")?;
     text.push_str(&environment::report(alloc, &variables)?)?;
