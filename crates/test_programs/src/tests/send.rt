@@ -46,6 +46,11 @@ const LEVEL: &[&str] = &["g", "b", "=-0.5", "k:v"];
 
 const LEVEL_LINES: &[u8] = b"p.b:0|g|#x,k:v|c:id\np.b:-0.5|g|#x,k:v|c:id";
 
+// Words with separators, which are cleaned, and the line that is sent for them.
+const UNCLEAN: &[&str] = &["c", "a:b", "1", "k|x:v"];
+
+const CLEANED_LINE: &[u8] = b"p.a_b:1|c|#x,k_x:v|c:id\n";
+
 const FIELDS: Fields<'static> = Fields {
     host: Some("h"),
     key: None,
@@ -95,9 +100,10 @@ const LOST: u8 = 9;
 // Returned in place of a status if memory was refused before the run began.
 const BEFORE: u8 = 4;
 
-// Returns the fields that the options give each line, or `None` if memory was refused.
-fn defaults_of<A: Allocator + Clone>(alloc: &A) -> Option<Defaults<A>> {
+// Returns the fields that the options give each line, or `None` if memory was refused. Words with a bar are cleaned.
+fn defaults_of<A: Allocator + Clone>(alloc: &A, words: &[&str]) -> Option<Defaults<A>> {
     let mut options = Options::new(alloc.clone().ok()?);
+    options.is_cleaning = words.iter().any(|word| word.contains('|'));
     for (setting, value) in OPTIONS {
         options.set(*setting, value).ok()?;
     }
@@ -137,7 +143,7 @@ fn drive<A: Allocator + Clone, T: PacketWriter, I: Read, E: Write>(
     let Ok(mut lines) = LineBuffer::new(alloc.clone().ok()?, writer, 24) else {
         return None;
     };
-    let defaults = defaults_of(&alloc)?;
+    let defaults = defaults_of(&alloc, words)?;
     let status = if words.is_empty() {
         run_lines(&alloc, &defaults, &mut lines, input, errors)
     } else {
@@ -264,6 +270,7 @@ const ROWS: &[Row] = &[
     (CHECK, b"", &SHORT, 0, CHECK_LINE, b""),
     (LEVEL, b"", &[], 0, LEVEL_LINES, b""),
     (LEVEL, b"", &[Answer::Refuse], 1, b"", REFUSED),
+    (UNCLEAN, b"", &SHORT, 0, CLEANED_LINE, b""),
     (&["event", "t"], b"", &[], 2, b"", NO_EVENT),
     (&["check", "w"], b"", &[], 2, b"", NO_CHECK),
     (&["check", "w", "4"], b"", &[], 2, b"", NO_STATUS),
@@ -337,6 +344,7 @@ fn each_request_may_be_refused(rt: HostRuntime) -> Result<(), Fail> {
     assert!(rt; requests_may_be_refused(rt.alloc(), EVENT, EVENT_LINE, 2)?);
     assert!(rt; requests_may_be_refused(rt.alloc(), CHECK, CHECK_LINE, 2)?);
     assert!(rt; requests_may_be_refused(rt.alloc(), LEVEL, LEVEL_LINES, 2)?);
+    assert!(rt; requests_may_be_refused(rt.alloc(), UNCLEAN, CLEANED_LINE, 2)?);
     Ok(())
 }
 
