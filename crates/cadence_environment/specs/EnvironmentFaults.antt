@@ -7,7 +7,7 @@ use Rattle.cadence_environment.specs.Destinations.{IsAbsolute, IsPathUrl}
 use Rattle.cadence_environment.specs.Switches.{turns_off}
 use Rattle.cadence_environment.specs.declared.variables.Variable.{Variable}
 use Rattle.cadence_environment.specs.declared.variables.Variable.TheVariants.{Url, Socket, AgentHost, AgentPort, StatsdHost, StatsdPort}
-use Rattle.cadence_environment.specs.declared.variables.Variable.TheVariants.{Env, Service, Version, Tags, EntityId, Disable, Enabled, MaxSize, Prefix, Origin}
+use Rattle.cadence_environment.specs.declared.variables.Variable.TheVariants.{Env, Service, Version, Tags, EntityId, Disable, Enabled, MaxSize, Prefix, Origin, Ipv6}
 use Rattle.cadence_environment.specs.declared.variables.Variables.{Variables}
 
 -- The error names this variable, or says that memory ran out.
@@ -42,6 +42,7 @@ IsRead v Enabled = v.enabled.now ≢ []
 IsRead v MaxSize = IsOn v × (v.max_size.now ≢ [])
 IsRead v Prefix = v.prefix.now ≢ []
 IsRead v Origin = v.origin.now ≢ []
+IsRead v Ipv6 = IsOn v × (v.ipv6.now ≢ [])
 
 -- The error names a variable that is set and that no other one overrides, or says that memory ran out.
 abbrev pub IsRefusedVariable : Variables → InputError Variable → Type 0

@@ -1,4 +1,4 @@
--- Which texts of variables say that nothing is sent.
+-- Which texts of switches say yes, which say no, and which say that nothing is sent.
 use Rattle.std.specs.Prelude.{◌≡◌, ◌⊎◌, ◌||◌, ℕ, Bool, List, [], IsTrue, codes}
 use Rattle.std.specs.Str.{bytes_eq}
 

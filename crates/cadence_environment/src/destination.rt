@@ -1,15 +1,15 @@
 //! Where the variables say to send.
 ghost use Rattle.std.specs.Prelude.{◌≡◌, ◌↔◌, IfErr, IfNone, IfOk, IfSome, IsTrue};
 ghost use Rattle.cadence_value.specs.Finds.{HasNone};
-ghost use Rattle.cadence_environment.specs.Destinations.{EndsWithPort, HasAfterUnix, HasCapacity, IsAbsolute, IsAuthority, IsHost, IsHostByte, IsPathUrl, NamesHost};
-ghost use Rattle.cadence_environment.specs.Destinations.{SaysHost, SaysHostAndPort, SaysPath, SaysPlace, SaysTarget, SaysUrl, capacity_of};
+ghost use Rattle.cadence_environment.specs.Destinations.{ChoosesTarget, EndsWithPort, HasAfterUnix, HasCapacity, HasFamily, IsAbsolute, IsAuthority, IsHost, IsHostByte, IsPathUrl, NamesHost};
+ghost use Rattle.cadence_environment.specs.Destinations.{SaysHost, SaysHostAndPort, SaysPath, SaysPlace, SaysTarget, SaysUrl, capacity_of, only_ipv6_of};
 ghost use Rattle.cadence_environment.specs.EnvironmentFaults.{IsFaultOf, IsMemoryOr, IsOn, IsPairFault, IsRefusedVariable, IsSetFault, NamesNoPath};
 ghost use Rattle.cadence_environment.specs.declared.variables.Variable.TheVariants as variable;
 
 use crate::error::EnvironmentError;
 use crate::numbers::{port_or_default, read_port, size_or_default};
 use crate::path::check_path;
-use crate::switch::{check_switches, is_off};
+use crate::switch::{check_switches, is_off, read_ipv6};
 use crate::variables::{Variable, Variables};
 use cadence_resolve::DEFAULT_PORT;
 use cadence_value::bytes::split_text_once;
@@ -28,11 +28,13 @@ const UNIX_CAPACITY: usize = 8192;
 pub enum Destination<A: Allocator = Global> {
     /// Nowhere: nothing is sent.
     Nowhere,
-    /// A host, which is a name or an address without brackets, a UDP port, and how many bytes a packet has.
+    /// A host, which is a name or an address without brackets, a UDP port, how many bytes a packet has, and whether the
+    /// host is looked up for addresses of IPv6 alone, as `look_up_host` does.
     Udp {
         host: String<A>,
         port: u16,
         capacity: usize,
+        only_ipv6: bool,
     },
     /// The path of a Unix datagram socket, which `check_path` accepts.
     Unix {
@@ -48,6 +50,16 @@ impl<A: Allocator> Destination<A> {
         match self {
             Destination::Udp { capacity, .. } => *capacity,
             _ => UNIX_CAPACITY,
+        }
+    }
+
+    /// Returns whether a host is looked up for addresses of IPv6 alone. It is false if nothing is looked up.
+    pub fn only_ipv6(&self) -> bool
+        ensures { result ≡ only_ipv6_of self.now }
+    {
+        match self {
+            Destination::Udp { only_ipv6, .. } => *only_ipv6,
+            _ => false,
         }
     }
 }
@@ -167,9 +179,11 @@ fn read_url<A: Allocator>(
     alloc: A,
     url: &str,
     capacity: usize,
+    only_ipv6: bool,
 ) -> Result<Destination<A>, EnvironmentError>
     ensures said { IfOk result (SaysUrl url.now) }
     ensures capacity { IfOk result (HasCapacity capacity) }
+    ensures family { IfOk result (HasFamily only_ipv6) }
     ensures refused { IfErr result (IsFaultOf variable.Url) }
     ensures paths { IfErr result (IsMemoryOr (HasNone (IsPathUrl url.now))) }
 {
@@ -187,6 +201,7 @@ fn read_url<A: Allocator>(
         host,
         port,
         capacity,
+        only_ipv6,
     })
 }
 
@@ -210,9 +225,11 @@ fn read_pair<A: Allocator>(
     host: (Variable, &str),
     port: (Variable, &str),
     capacity: usize,
+    only_ipv6: bool,
 ) -> Result<Destination<A>, EnvironmentError>
     ensures said { IfOk result (SaysHostAndPort host.entry.1.now port.entry.1.now) }
     ensures capacity { IfOk result (HasCapacity capacity) }
+    ensures family { IfOk result (HasFamily only_ipv6) }
     ensures refused { IfErr result
         (IsPairFault host.entry.0 host.entry.1.now port.entry.0 port.entry.1.now) }
 {
@@ -223,7 +240,37 @@ fn read_pair<A: Allocator>(
         host,
         port,
         capacity,
+        only_ipv6,
     })
+}
+
+// Returns the target of the variables that win over the others, with this capacity and this family if it is a host.
+fn choose_target<A: Allocator>(
+    alloc: A,
+    variables: &Variables<'_>,
+    capacity: usize,
+    only_ipv6: bool,
+) -> Result<Destination<A>, EnvironmentError>
+    ensures said { IfOk result (ChoosesTarget variables.now) }
+    ensures capacity { IfOk result (HasCapacity capacity) }
+    ensures family { IfOk result (HasFamily only_ipv6) }
+    ensures refused { IfErr result (λ e. IsOn variables.now → IsRefusedVariable variables.now e) }
+    ensures paths { IfErr result (NamesNoPath variables.now) }
+{
+    if !variables.url.is_empty() {
+        return read_url(alloc, variables.url, capacity, only_ipv6);
+    }
+    if !variables.socket.is_empty() {
+        return read_path(alloc, Variable::Socket, variables.socket);
+    }
+    if !variables.agent_host.is_empty() || !variables.agent_port.is_empty() {
+        let host = (Variable::AgentHost, variables.agent_host);
+        let port = (Variable::AgentPort, variables.agent_port);
+        return read_pair(alloc, host, port, capacity, only_ipv6);
+    }
+    let host = (Variable::StatsdHost, variables.statsd_host);
+    let port = (Variable::StatsdPort, variables.statsd_port);
+    read_pair(alloc, host, port, capacity, only_ipv6)
 }
 
 // Returns the target that the variables say, whether or not they say that nothing is sent.
@@ -236,20 +283,8 @@ fn read_target<A: Allocator>(
     ensures paths { IfErr result (NamesNoPath variables.now) }
 {
     let capacity = size_or_default(variables.max_size)?;
-    if !variables.url.is_empty() {
-        return read_url(alloc, variables.url, capacity);
-    }
-    if !variables.socket.is_empty() {
-        return read_path(alloc, Variable::Socket, variables.socket);
-    }
-    if !variables.agent_host.is_empty() || !variables.agent_port.is_empty() {
-        let host = (Variable::AgentHost, variables.agent_host);
-        let port = (Variable::AgentPort, variables.agent_port);
-        return read_pair(alloc, host, port, capacity);
-    }
-    let host = (Variable::StatsdHost, variables.statsd_host);
-    let port = (Variable::StatsdPort, variables.statsd_port);
-    read_pair(alloc, host, port, capacity)
+    let only_ipv6 = read_ipv6(variables.ipv6)?;
+    choose_target(alloc, variables, capacity, only_ipv6)
 }
 
 // Returns where the variables say to send.

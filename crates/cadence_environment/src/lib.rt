@@ -3,11 +3,13 @@
 //! - `container`: the container that a process runs in.
 //! - `destination`: where the variables say to send.
 //! - `error`: why nothing is read from the environment.
+//! - `lookup`: the address of a host, of any family or of IPv6 alone.
 //! - `numbers`: the numbers that the variables say: ports, and how many bytes a packet has.
 //! - `path`: which texts can be the path of a Unix socket.
 //! - `prefix`: the prefix that a variable says.
 //! - `read`: what the environment says, read from a runtime or from texts.
-//! - `switch`: whether the variables say that nothing is sent, and whether the default container is that of the process.
+//! - `switch`: the switches: whether nothing is sent, whether the default container is that of the process, and whether a
+//!   host is looked up for addresses of IPv6 alone.
 //! - `tags`: the tags that the variables say.
 //! - `trim`: texts without the spaces round them.
 //! - `variables`: the variables of the environment, and the texts that they have.
@@ -16,6 +18,7 @@
 mod container;
 mod destination;
 mod error;
+mod lookup;
 mod numbers;
 mod path;
 mod prefix;
@@ -28,6 +31,7 @@ mod variables;
 pub use container::container_id;
 pub use destination::Destination;
 pub use error::EnvironmentError;
+pub use lookup::look_up_host;
 pub use numbers::read_port;
 pub use path::{MAX_PATH, PathError, check_path};
 pub use prefix::read_prefix;

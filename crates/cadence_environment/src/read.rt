@@ -192,6 +192,7 @@ struct PlaceTexts<A: Allocator> {
     disable: String<A>,
     enabled: String<A>,
     max_size: String<A>,
+    ipv6: String<A>,
 }
 
 impl<A: Allocator> PlaceTexts<A> {
@@ -210,6 +211,7 @@ impl<A: Allocator> PlaceTexts<A> {
         let statsd_host = read_text(rt, Variable::StatsdHost, no_agent)?;
         let statsd_port = read_text(rt, Variable::StatsdPort, no_agent)?;
         let max_size = read_text(rt, Variable::MaxSize, is_on)?;
+        let ipv6 = read_text(rt, Variable::Ipv6, is_on)?;
         Ok(PlaceTexts {
             url,
             socket,
@@ -220,6 +222,7 @@ impl<A: Allocator> PlaceTexts<A> {
             disable,
             enabled,
             max_size,
+            ipv6,
         })
     }
 
@@ -235,6 +238,7 @@ impl<A: Allocator> PlaceTexts<A> {
             disable: &self.disable,
             enabled: &self.enabled,
             max_size: &self.max_size,
+            ipv6: &self.ipv6,
             ..others
         }
     }

@@ -1,4 +1,5 @@
-//! Whether the variables say that nothing is sent, and whether the default container is that of the process.
+//! The switches of the environment: whether nothing is sent, whether the default container is that of the process, and
+//! whether a host is looked up for addresses of IPv6 alone.
 ghost use Rattle.std.specs.Prelude.{◌≡◌, IfErr, IfOk};
 ghost use Rattle.cadence_environment.specs.EnvironmentFaults.{IsRefusedVariable, IsSetFault, NamesNoPath};
 ghost use Rattle.cadence_environment.specs.Switches.{IsSwitch, is_no, is_yes, turns_off};
@@ -50,6 +51,16 @@ pub(crate) fn check_switches(variables: &Variables<'_>) -> Result<(), Environmen
     check_switch(Variable::Enabled, variables.enabled)
 }
 
+// Returns whether a variable says yes.
+fn read_switch(variable: Variable, text: &str) -> Result<bool, EnvironmentError>
+    ensures said { IfOk result (λ is_wanted. is_wanted ≡ is_yes text.now) }
+    ensures switch { IfOk result (λ _. IsSwitch text.now) }
+    ensures refused { IfErr result (IsSetFault variable text.now) }
+{
+    check_switch(variable, text)?;
+    Ok(says_yes(text))
+}
+
 /// Returns whether this text of `DD_ORIGIN_DETECTION_ENABLED` says that the default container is that of the process.
 ///
 /// # Errors
@@ -59,6 +70,14 @@ pub fn read_origin(text: &str) -> Result<bool, EnvironmentError>
     ensures switch { IfOk result (λ _. IsSwitch text.now) }
     ensures refused { IfErr result (IsSetFault variable.Origin text.now) }
 {
-    check_switch(Variable::Origin, text)?;
-    Ok(says_yes(text))
+    read_switch(Variable::Origin, text)
+}
+
+// Returns whether this text of `STATSD_IPV6` says that a host is looked up for addresses of IPv6 alone.
+pub(crate) fn read_ipv6(text: &str) -> Result<bool, EnvironmentError>
+    ensures said { IfOk result (λ only_ipv6. only_ipv6 ≡ is_yes text.now) }
+    ensures switch { IfOk result (λ _. IsSwitch text.now) }
+    ensures refused { IfErr result (IsSetFault variable.Ipv6 text.now) }
+{
+    read_switch(Variable::Ipv6, text)
 }

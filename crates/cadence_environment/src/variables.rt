@@ -38,6 +38,8 @@ pub enum Variable {
     Prefix,
     /// `DD_ORIGIN_DETECTION_ENABLED`: if it says yes, the default container is that of the process.
     Origin,
+    /// `STATSD_IPV6`: if it says yes, a host over UDP is looked up for addresses of IPv6 alone.
+    Ipv6,
 }
 
 impl Variable {
@@ -60,6 +62,7 @@ impl Variable {
             Variable::MaxSize => "STATSD_MAXUDPSIZE",
             Variable::Prefix => "STATSD_PREFIX",
             Variable::Origin => "DD_ORIGIN_DETECTION_ENABLED",
+            Variable::Ipv6 => "STATSD_IPV6",
         }
     }
 }
@@ -92,6 +95,7 @@ impl Reason for Variable {
             Variable::Prefix => "STATSD_PREFIX wants no colons, commas, bars or newlines",
             Variable::Origin =>
                 "DD_ORIGIN_DETECTION_ENABLED wants 1, true or yes, or 0, false or no",
+            Variable::Ipv6 => "STATSD_IPV6 wants 1, true or yes, or 0, false or no",
         }
     }
 }
@@ -137,6 +141,8 @@ pub struct Variables<'a> {
     pub prefix: &'a str,
     /// The text of `DD_ORIGIN_DETECTION_ENABLED`.
     pub origin: &'a str,
+    /// The text of `STATSD_IPV6`.
+    pub ipv6: &'a str,
 }
 
 impl Variables<'_> {
@@ -159,6 +165,7 @@ impl Variables<'_> {
             max_size: "",
             prefix: "",
             origin: "",
+            ipv6: "",
         }
     }
 }
