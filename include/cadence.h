@@ -489,9 +489,9 @@ uint32_t cadence_chooses(const cadence_decimal_number *chance, uint64_t draw, bo
 
 /* The values of the variables of the environment: DD_DOGSTATSD_URL, DD_DOGSTATSD_SOCKET, DD_AGENT_HOST,
  * DD_DOGSTATSD_PORT, STATSD_HOST, STATSD_PORT, DD_ENV, DD_SERVICE, DD_VERSION, DD_TAGS, DD_ENTITY_ID,
- * DD_DOGSTATSD_DISABLE, STATSD_ENABLED, STATSD_MAXUDPSIZE, STATSD_PREFIX and DD_ORIGIN_DETECTION_ENABLED. A variable
- * that isn't set has the empty text. The number of a variable is its place here, from 0 on; cadence_variable_name returns
- * its name. */
+ * DD_DOGSTATSD_DISABLE, STATSD_ENABLED, STATSD_MAXUDPSIZE, STATSD_PREFIX, DD_ORIGIN_DETECTION_ENABLED and STATSD_IPV6.
+ * A variable that isn't set has the empty text. The number of a variable is its place here, from 0 on;
+ * cadence_variable_name returns its name. */
 typedef struct cadence_variables {
     const uint8_t *url;
     size_t url_len;
@@ -525,6 +525,8 @@ typedef struct cadence_variables {
     size_t prefix_len;
     const uint8_t *origin;
     size_t origin_len;
+    const uint8_t *ipv6;
+    size_t ipv6_len;
 } cadence_variables;
 
 /* Writes where the variables say to send into `out`, and sets *length to the length of that text in bytes: a host,
@@ -533,11 +535,12 @@ typedef struct cadence_variables {
  * then nothing is sent. Otherwise DD_DOGSTATSD_URL wins over all others, DD_DOGSTATSD_SOCKET over the rest, and
  * DD_AGENT_HOST and DD_DOGSTATSD_PORT over STATSD_HOST and STATSD_PORT. By default it is 127.0.0.1 and 8125. Sets
  * *capacity to how many bytes a packet has: STATSD_MAXUDPSIZE to a host, which is 1432 by default, and 8192
- * otherwise. Needs no client. Returns CADENCE_OK; CADENCE_TOO_SMALL, with the length of the text in *length; or
- * CADENCE_VARIABLE, with the number of the variable in *variable, or CADENCE_NO_MEMORY, with *length 0. A variable
- * that another one overrides is not tested. */
+ * otherwise. Sets *only_ipv6 to whether the host is to be looked up for addresses of IPv6 alone (AF_INET6), because
+ * STATSD_IPV6 says yes; it is false if there is no host. Needs no client. Returns CADENCE_OK; CADENCE_TOO_SMALL, with
+ * the length of the text in *length; or CADENCE_VARIABLE, with the number of the variable in *variable, or
+ * CADENCE_NO_MEMORY, with *length 0. A variable that another one overrides is not tested. */
 uint32_t cadence_destination(const cadence_variables *variables, uint8_t *out, size_t out_len, size_t *length,
-                             uint16_t *port, size_t *capacity, uint32_t *variable);
+                             uint16_t *port, size_t *capacity, bool *only_ipv6, uint32_t *variable);
 
 /* Writes the text of the default tags that the variables say into `out`, as cadence_tags_text does, and returns what
  * cadence_destination returns. No text of them has a ',', a '|' or a newline, and no key has a ':', so the text can be
@@ -604,21 +607,23 @@ static inline const char *cadence_variable_name(uint32_t variable) {
     static const char *const names[] = { "DD_DOGSTATSD_URL", "DD_DOGSTATSD_SOCKET", "DD_AGENT_HOST", "DD_DOGSTATSD_PORT",
                                          "STATSD_HOST",      "STATSD_PORT",         "DD_ENV",        "DD_SERVICE",
                                          "DD_VERSION",       "DD_TAGS",             "DD_ENTITY_ID",  "DD_DOGSTATSD_DISABLE",
-                                         "STATSD_ENABLED",   "STATSD_MAXUDPSIZE",   "STATSD_PREFIX", "DD_ORIGIN_DETECTION_ENABLED" };
+                                         "STATSD_ENABLED",   "STATSD_MAXUDPSIZE",   "STATSD_PREFIX", "DD_ORIGIN_DETECTION_ENABLED",
+                                         "STATSD_IPV6" };
     return variable < sizeof names / sizeof names[0] ? names[variable] : CADENCE_NULL;
 }
 
 /* Returns the values of the variables, each as a function returns it for its name, or null if it isn't set: for example
  * getenv. They point to the values, so keep these alive. */
 static inline cadence_variables cadence_variables_of(char *(*value_of)(const char *name)) {
-    const char *at[16];
-    for (uint32_t i = 0; i < 16; i++) at[i] = value_of(cadence_variable_name(i));
+    const char *at[17];
+    for (uint32_t i = 0; i < 17; i++) at[i] = value_of(cadence_variable_name(i));
     cadence_variables variables;
 #define CADENCE_SET(field, i) (variables.field = CADENCE_BYTES(at[i]), variables.field##_len = cadence_length_of(at[i]))
     CADENCE_SET(url, 0), CADENCE_SET(socket, 1), CADENCE_SET(agent_host, 2), CADENCE_SET(agent_port, 3);
     CADENCE_SET(statsd_host, 4), CADENCE_SET(statsd_port, 5), CADENCE_SET(env, 6), CADENCE_SET(service, 7);
     CADENCE_SET(version, 8), CADENCE_SET(tags, 9), CADENCE_SET(entity_id, 10), CADENCE_SET(disable, 11);
     CADENCE_SET(enabled, 12), CADENCE_SET(max_size, 13), CADENCE_SET(prefix, 14), CADENCE_SET(origin, 15);
+    CADENCE_SET(ipv6, 16);
 #undef CADENCE_SET
     return variables;
 }

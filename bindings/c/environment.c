@@ -7,7 +7,7 @@
 #include <stdlib.h>
 #include <string.h>
 
-enum { LONGEST = 4096, VARIABLES = 16 };
+enum { LONGEST = 4096, ORIGIN = 15, VARIABLES = 17 };
 
 static char values[VARIABLES][LONGEST];
 static bool is_set[VARIABLES];
@@ -67,9 +67,10 @@ static void say(char *to) {
     uint8_t place[256], tags[LONGEST], prefix[256], words[256];
     size_t place_len, tags_len, prefix_len, words_len, id_len, capacity = 0;
     uint16_t port = 1;
+    bool only_ipv6 = true;
     uint32_t variable = VARIABLES;
     const cadence_variables variables = cadence_variables_of(value_of);
-    uint32_t status = cadence_destination(&variables, place, sizeof place, &place_len, &port, &capacity, &variable);
+    uint32_t status = cadence_destination(&variables, place, sizeof place, &place_len, &port, &capacity, &only_ipv6, &variable);
     if (status == CADENCE_OK)
         status = cadence_environment_prefix(&variables, prefix, sizeof prefix, &prefix_len, &variable);
     if (status == CADENCE_OK)
@@ -84,6 +85,7 @@ static void say(char *to) {
         to += port != 0 ? sprintf(to, "udp %.*s %u", (int)place_len, (char *)place, port)
                         : sprintf(to, place_len != 0 ? "unix %.*s" : "nowhere%.*s", (int)place_len, (char *)place);
         if (capacity != (port != 0 ? 1432 : 8192)) to += sprintf(to, " %zu", capacity);
+        if (only_ipv6) to += sprintf(to, " over IPv6");
         if (prefix_len != 0) to += sprintf(to, " as %.*s", (int)prefix_len, (char *)prefix);
         put_tags(to, (char *)tags, tags_len);
     }
@@ -100,8 +102,8 @@ static void say_container(char *to, char *given) {
     unescape(text, end + 1, strlen(end + 1));
     memset(is_set, 0, sizeof is_set);
     const cadence_variables off = cadence_variables_of(value_of);
-    is_set[VARIABLES - 1] = true;
-    strcpy(values[VARIABLES - 1], "true");
+    is_set[ORIGIN] = true;
+    strcpy(values[ORIGIN], "true");
     const cadence_variables on = cadence_variables_of(value_of);
     uint32_t status = cadence_environment_container(&off, CADENCE_BYTES(text), strlen(text), inode, id, sizeof id, &len, &variable);
     if (status == CADENCE_OK && len == 0)

@@ -50,7 +50,8 @@ int main() {
     AT(cadence_variables, entity_id_len), AT(cadence_variables, disable), AT(cadence_variables, disable_len);
     AT(cadence_variables, enabled), AT(cadence_variables, enabled_len), AT(cadence_variables, max_size);
     AT(cadence_variables, max_size_len), AT(cadence_variables, prefix), AT(cadence_variables, prefix_len);
-    AT(cadence_variables, origin), AT(cadence_variables, origin_len);
+    AT(cadence_variables, origin), AT(cadence_variables, origin_len), AT(cadence_variables, ipv6);
+    AT(cadence_variables, ipv6_len);
     const cadence_options none = CADENCE_NO_OPTIONS;
     const cadence_settings nothing = CADENCE_NO_SETTINGS;
     const cadence_handle closed = CADENCE_CLOSED;

@@ -4,7 +4,7 @@ use Rattle.std.specs.Fmt.{decimal}
 use Rattle.std.specs.declared.alloc.Global.{Global}
 use Rattle.std.specs.Option.{unwrap_or}
 use Rattle.cadence_environment.specs.Containers.{container_of}
-use Rattle.cadence_environment.specs.Destinations.{SaysPlace, capacity_of}
+use Rattle.cadence_environment.specs.Destinations.{SaysPlace, capacity_of, only_ipv6_of}
 use Rattle.cadence_environment.specs.EnvironmentFaults.{IsRead}
 use Rattle.cadence_environment.specs.Switches.{turns_off}
 use Rattle.cadence_environment.specs.TagTexts.{has_bytes}
@@ -14,7 +14,7 @@ use Rattle.cadence_errors.specs.declared.input_error.InputError.{InputError}
 use Rattle.cadence_errors.specs.declared.input_error.InputError.TheVariants.{Unusable, OutOfMemory}
 use Rattle.cadence_environment.specs.declared.variables.Variable.{Variable}
 use Rattle.cadence_environment.specs.declared.variables.Variable.TheVariants.{Url, Socket, AgentHost, AgentPort, StatsdHost, StatsdPort}
-use Rattle.cadence_environment.specs.declared.variables.Variable.TheVariants.{Env, Service, Version, Tags, EntityId, Disable, Enabled, MaxSize, Prefix, Origin}
+use Rattle.cadence_environment.specs.declared.variables.Variable.TheVariants.{Env, Service, Version, Tags, EntityId, Disable, Enabled, MaxSize, Prefix, Origin, Ipv6}
 use Rattle.cadence_environment.specs.declared.variables.Variables.{Variables}
 use Rattle.cadence_c.specs.declared.environment.CVariables.{CVariables}
 
@@ -36,6 +36,7 @@ pub record HasTexts (c : CVariables) (v : Variables) : Type 0 where
   pub max_size : v.max_size.now ≡ c.max_size.now
   pub prefix : v.prefix.now ≡ c.prefix.now
   pub origin : v.origin.now ≡ c.origin.now
+  pub ipv6 : v.ipv6.now ≡ c.ipv6.now
 
 -- the text of a variable if it is read, and otherwise the empty text
 abbrev pub when : Bool → List ℕ → List ℕ
@@ -76,6 +77,7 @@ pub record ArePlacesRead (c : CVariables) (v : Variables) : Type 0 where
   pub max_size : v.max_size.now ≡ when (is_on c) c.max_size.now
   pub prefix : v.prefix.now ≡ []
   pub origin : v.origin.now ≡ []
+  pub ipv6 : v.ipv6.now ≡ when (is_on c) c.ipv6.now
 
 -- The variables that say tags have these texts. The others are empty.
 pub record AreTagsRead (c : CVariables) (v : Variables) : Type 0 where
@@ -95,18 +97,19 @@ pub record AreTagsRead (c : CVariables) (v : Variables) : Type 0 where
   pub max_size : v.max_size.now ≡ []
   pub prefix : v.prefix.now ≡ []
   pub origin : v.origin.now ≡ []
+  pub ipv6 : v.ipv6.now ≡ []
 
 -- The destination is this host and port, or this path and the port 0, or nowhere, with no text and the port 0.
 abbrev pub IsPlaceFound : {A : Type 0} → Destination A → List ℕ → ℕ → Type 0
 IsPlaceFound Nowhere text port = (text ≡ []) × (port ≡ 0)
-IsPlaceFound (Udp host number capacity) text port = (text ≡ string_bytes host) × (port ≡ number)
+IsPlaceFound (Udp host number capacity only_ipv6) text port = (text ≡ string_bytes host) × (port ≡ number)
 IsPlaceFound (Unix path) text port = (text ≡ string_bytes path) × (port ≡ 0)
 
 -- The variables say to send to this host and port, or if the port is 0 to this path, or nowhere if the text is empty,
--- and that a packet has this number of bytes.
-abbrev pub SaysTarget : Variables → List ℕ → ℕ → ℕ → Type 0
-SaysTarget v text port capacity =
-    (d : Destination Global) × SaysPlace v d × IsPlaceFound d text port × (capacity ≡ capacity_of d)
+-- and that a packet has this number of bytes, and whether the host is looked up for addresses of IPv6 alone.
+abbrev pub SaysTarget : Variables → List ℕ → ℕ → ℕ → Bool → Type 0
+SaysTarget v text port capacity only_ipv6 =
+    (d : Destination Global) × SaysPlace v d × IsPlaceFound d text port × (capacity ≡ capacity_of d) × (only_ipv6 ≡ only_ipv6_of d)
 
 -- the variable that has this number in C
 abbrev pub variable_named : ℕ → Option Variable
@@ -115,7 +118,8 @@ variable_named n =
     else if n == 4 then Some StatsdHost else if n == 5 then Some StatsdPort else if n == 6 then Some Env else if n == 7 then Some Service
     else if n == 8 then Some Version else if n == 9 then Some Tags else if n == 10 then Some EntityId
     else if n == 11 then Some Disable else if n == 12 then Some Enabled else if n == 13 then Some MaxSize
-    else if n == 14 then Some Prefix else if n == 15 then Some Origin else None
+    else if n == 14 then Some Prefix else if n == 15 then Some Origin
+    else if n == 16 then Some Ipv6 else None
 
 -- The error names the variable of this number, or says that memory ran out.
 abbrev pub Names : InputError Variable → ℕ → Type 0

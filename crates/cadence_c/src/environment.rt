@@ -43,6 +43,7 @@ pub struct CVariables<'a> {
     pub max_size: &'a [u8],
     pub prefix: &'a [u8],
     pub origin: &'a [u8],
+    pub ipv6: &'a [u8],
 }
 
 /// Returns the text of a variable, or the empty text if it is not wanted, because another variable overrides it.
@@ -112,6 +113,7 @@ fn read_places<'a>(texts: &CVariables<'a>) -> Result<Variables<'a>, EnvironmentE
         max_size: read_variable(texts.max_size, Variable::MaxSize, is_on)?,
         prefix: "",
         origin: "",
+        ipv6: read_variable(texts.ipv6, Variable::Ipv6, is_on)?,
     })
 }
 
@@ -138,6 +140,7 @@ fn read_tag_texts<'a>(texts: &CVariables<'a>) -> Result<Variables<'a>, Environme
         max_size: "",
         prefix: "",
         origin: "",
+        ipv6: "",
     })
 }
 
@@ -179,8 +182,8 @@ pub fn refusal(error: EnvironmentError, variable: &mut u32) -> u32
 
 /// Writes where the variables say to send into the first bytes of `out`, and the length of that text into `size`: a host,
 /// with its port in `port`, or the path of a Unix socket, with the port 0, or no text, with the port 0, if nothing is
-/// sent. How many bytes a packet has is in `capacity`. If a variable can't be used, its number is in `variable`. The
-/// variables that say tags are not tested.
+/// sent. How many bytes a packet has is in `capacity`, and whether the host is looked up for addresses of IPv6 alone in
+/// `only_ipv6`. If a variable can't be used, its number is in `variable`. The variables that say tags are not tested.
 #[unsafe(no_mangle)]
 pub extern "C" fn cadence_destination(
     alloc: Global,
@@ -189,10 +192,12 @@ pub extern "C" fn cadence_destination(
     size: &mut usize,
     port: &mut u16,
     capacity: &mut usize,
+    only_ipv6: &mut bool,
     variable: &mut u32,
 ) -> u32
     ensures target { (v : TheVariables) → HasTexts variables.now v →
-        WritesOut result (λ text. SaysTarget v text port.new capacity.new) out.new size.new }
+        WritesOut result (λ text. SaysTarget v text port.new capacity.new only_ipv6.new)
+        out.new size.new }
     ensures refused { result ≡ CADENCE_VARIABLE → (v : TheVariables) → HasTexts variables.now v →
         IsNamed v variable.new }
     ensures statuses { IsOkOr (CADENCE_VARIABLE ∷ CADENCE_NO_MEMORY ∷ CADENCE_TOO_SMALL ∷ [])
@@ -204,6 +209,7 @@ pub extern "C" fn cadence_destination(
         Err(error) => return refusal(error, variable),
     };
     *capacity = environment.destination().capacity();
+    *only_ipv6 = environment.destination().only_ipv6();
     match environment.destination() {
         Destination::Nowhere => {
             *port = 0;

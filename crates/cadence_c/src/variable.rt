@@ -28,6 +28,7 @@ pub fn number_of(variable: Variable) -> u32
         Variable::MaxSize => 13,
         Variable::Prefix => 14,
         Variable::Origin => 15,
+        Variable::Ipv6 => 16,
     }
 }
 
@@ -52,6 +53,7 @@ fn variable_of(number: u32) -> Option<Variable>
         13 => Some(Variable::MaxSize),
         14 => Some(Variable::Prefix),
         15 => Some(Variable::Origin),
+        16 => Some(Variable::Ipv6),
         _ => None,
     }
 }
