@@ -26,6 +26,7 @@ struct cadence_udp_socket {
     socklen_t address_len;
     bool is_name, is_refused; /* whether a name is looked up, and whether a packet was refused since */
     bool is_nowhere; /* whether nothing is sent */
+    bool only_ipv6; /* whether the host is looked up for addresses of IPv6 alone */
     uint64_t looked_up, took; /* when the name was last looked up, and how long that took */
     uint8_t *packet, *texts; /* the packet that is sent, and the texts of the settings */
     size_t room;
@@ -106,10 +107,11 @@ static bool move_to(struct cadence_udp_socket *it, const struct sockaddr *addres
     return true;
 }
 
-/* Looks the host up, and sends from now on to its first address of IPv4, or if it has none to its first address. Returns
- * 0, or the error of getaddrinfo. */
+/* Looks the host up, and sends from now on to its first address of IPv4, or if it has none to its first address. Only
+ * addresses of IPv6 are looked up if the client wants no others. Returns 0, or the error of getaddrinfo. */
 static int look_up(struct cadence_udp_socket *it, int flags) {
-    const struct addrinfo wanted = { .ai_socktype = SOCK_DGRAM, .ai_flags = flags };
+    const int family = it->only_ipv6 ? AF_INET6 : AF_UNSPEC;
+    const struct addrinfo wanted = { .ai_family = family, .ai_socktype = SOCK_DGRAM, .ai_flags = flags };
     struct addrinfo *found = NULL, *at;
     const uint64_t start = now();
     int error = getaddrinfo(it->host, it->port, &wanted, &found);
@@ -133,15 +135,22 @@ static void follow_host(struct cadence_udp_socket *it) {
     if (it->is_name && now() - it->looked_up >= pause) look_up(it, 0);
 }
 
-const char *cadence_udp_connect(cadence_udp *to, const char *host, uint16_t port, size_t capacity, uint32_t period_millis) {
+/* Makes a client that sends to a host, which is looked up for addresses of IPv6 alone if that is wanted. */
+static const char *connect_host(cadence_udp *to, const char *host, uint16_t port, bool only_ipv6, size_t capacity,
+                                uint32_t period_millis) {
     const char *words = begin(to, host, capacity, period_millis);
     if (words != NULL) return words;
     if (port == 0) return fault(to, host, "the port is 0");
+    to->socket->only_ipv6 = only_ipv6;
     snprintf(to->socket->port, sizeof to->socket->port, "%u", port);
     int error = look_up(to->socket, AI_NUMERICHOST);
     to->socket->is_name = error == EAI_NONAME;
     if (to->socket->is_name) error = look_up(to->socket, 0);
     return error == 0 ? NULL : fault(to, host, error == EAI_SYSTEM ? strerror(errno) : gai_strerror(error));
+}
+
+const char *cadence_udp_connect(cadence_udp *to, const char *host, uint16_t port, size_t capacity, uint32_t period_millis) {
+    return connect_host(to, host, port, false, capacity, period_millis);
 }
 
 const char *cadence_udp_connect_path(cadence_udp *to, const char *path, size_t capacity, uint32_t period_millis) {
@@ -229,13 +238,15 @@ const char *cadence_udp_connect_environment(cadence_udp *to, const char *prefix,
     char place[1024];
     size_t len, usual;
     uint16_t port;
+    bool only_ipv6 = false;
     uint32_t variable = 0;
+    uint8_t *const out = (uint8_t *)place;
     cadence_udp_close(to);
-    uint32_t status = cadence_destination(&variables, (uint8_t *)place, sizeof place - 1, &len, &port, &usual, &variable);
+    uint32_t status = cadence_destination(&variables, out, sizeof place - 1, &len, &port, &usual, &only_ipv6, &variable);
     if (status != CADENCE_OK) return bad_environment(to, status, variable);
     place[len] = '\0';
     if (capacity == 0) capacity = usual;
-    const char *words = port != 0  ? cadence_udp_connect(to, place, port, capacity, period_millis)
+    const char *words = port != 0  ? connect_host(to, place, port, only_ipv6, capacity, period_millis)
                         : len != 0 ? cadence_udp_connect_path(to, place, capacity, period_millis)
                                    : connect_nowhere(to, capacity, period_millis);
     if (words != NULL) return words;

@@ -6,6 +6,7 @@
 
 #include <arpa/inet.h>
 #include <netdb.h>
+#include <stdbool.h>
 #include <stdlib.h>
 #include <string.h>
 #include <sys/socket.h>
@@ -31,19 +32,9 @@ static struct addrinfo *entry_of(const char *text, const char *port) {
     return made;
 }
 
-int getaddrinfo(const char *name, const char *port, const struct addrinfo *wanted, struct addrinfo **found) {
-    char list[256];
-    *found = entry_of(name, port);
-    if (*found != NULL) return 0;
-    if (wanted->ai_flags & AI_NUMERICHOST) return EAI_NONAME;
-    lookups++;
-    later += lookup_takes;
-    if (strcmp(name, "agent.test") != 0 || *addresses == '\0') return EAI_NONAME;
-    strcpy(list, addresses);
-    struct addrinfo **next = found;
-    for (char *text = strtok(list, " "); text != NULL; text = strtok(NULL, " "), next = &(*next)->ai_next)
-        *next = entry_of(text, port);
-    return 0;
+/* Returns whether an entry has the family that is wanted, if one is. */
+static bool is_wanted(const struct addrinfo *entry, const struct addrinfo *wanted) {
+    return wanted->ai_family == AF_UNSPEC || wanted->ai_family == entry->ai_family;
 }
 
 void freeaddrinfo(struct addrinfo *found) {
@@ -52,6 +43,25 @@ void freeaddrinfo(struct addrinfo *found) {
         free(found);
         found = next;
     }
+}
+
+int getaddrinfo(const char *name, const char *port, const struct addrinfo *wanted, struct addrinfo **found) {
+    char list[256];
+    *found = entry_of(name, port);
+    if (*found != NULL && is_wanted(*found, wanted)) return 0;
+    if (*found != NULL) return freeaddrinfo(*found), EAI_ADDRFAMILY;
+    if (wanted->ai_flags & AI_NUMERICHOST) return EAI_NONAME;
+    lookups++;
+    later += lookup_takes;
+    if (strcmp(name, "agent.test") != 0 || *addresses == '\0') return EAI_NONAME;
+    strcpy(list, addresses);
+    struct addrinfo **next = found;
+    for (char *text = strtok(list, " "); text != NULL; text = strtok(NULL, " ")) {
+        *next = entry_of(text, port);
+        if (*next != NULL && is_wanted(*next, wanted)) next = &(*next)->ai_next;
+        else freeaddrinfo(*next), *next = NULL;
+    }
+    return *found != NULL ? 0 : EAI_NONAME;
 }
 
 int clock_gettime(clockid_t clock, struct timespec *time) {

@@ -329,6 +329,39 @@ static void by_environment(const char *path) {
     unlink(path);
 }
 
+/* Only addresses of IPv6 are looked up, if a variable says so, also later. */
+static void by_ipv6(void) {
+    uint16_t port = 0;
+    char text[8];
+    cadence_udp out = CADENCE_UDP_CLOSED;
+    setenv("STATSD_IPV6", "1", 1);
+    setenv("STATSD_HOST", "127.0.0.1", 1);
+    CHECK(cadence_udp_connect_environment(&out, NULL, 512, HOUR) != NULL && out.socket == NULL);
+    setenv("STATSD_HOST", "agent.test", 1);
+    addresses = "127.0.0.1";
+    CHECK(cadence_udp_connect_environment(&out, NULL, 512, HOUR) != NULL && out.socket == NULL);
+    const int server = server_at("::1", &port);
+    if (server >= 0) { /* there is IPv6 here */
+        snprintf(text, sizeof text, "%u", port);
+        setenv("STATSD_PORT", text, 1);
+        addresses = "127.0.0.1 ::1";
+        CHECK(cadence_udp_connect_environment(&out, NULL, 512, HOUR) == NULL && flushed(&out, "a", 1) == 0 && gets(server, "a:1|c\n"));
+        addresses = "127.0.0.1";
+        later += 60 * SECOND;
+        CHECK(flushed(&out, "a", 2) == 0 && gets(server, "a:2|c\n"));
+        cadence_udp_close(&out);
+        close(server);
+    }
+    const char *const words[] = { "0", "six" };
+    for (int i = 0; i < 2; i++) {
+        setenv("STATSD_IPV6", words[i], 1);
+        const char *const fault = cadence_udp_connect_environment(&out, NULL, 512, HOUR);
+        CHECK(i == 0 ? fault == NULL : strncmp(fault, "STATSD_IPV6 wants ", 18) == 0);
+    }
+    cadence_udp_close(&out);
+    CHECK(unsetenv("STATSD_IPV6") == 0 && unsetenv("STATSD_HOST") == 0 && unsetenv("STATSD_PORT") == 0);
+}
+
 /* A client that sends its own counts. */
 static void by_telemetry(const char *path) {
     const cadence_settings settings = cadence_settings_of("t.");
@@ -387,6 +420,7 @@ int main(int argc, char **argv) {
     by_name();
     by_rows(argv[2]);
     by_environment(path);
+    by_ipv6();
     by_telemetry(path);
     by_container();
     return failures != 0;
