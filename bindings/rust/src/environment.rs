@@ -1,7 +1,7 @@
 // SPDX-License-Identifier: MIT OR Apache-2.0
 //! What the variables of the environment say about a client.
 use crate::client::{StatsdClient, StatsdClientBuilder};
-use crate::layout::{Variables, VARIABLES};
+use crate::layout::{Variables, ORIGIN, VARIABLES};
 use crate::raw::{destination, environment_container, environment_prefix, environment_tags, variable_text};
 use crate::sinks::{Buffer, BufferedUnixMetricSink, HostSink, NopMetricSink, Periods};
 use crate::types::MetricResult;
@@ -40,6 +40,7 @@ pub enum Target {
 /// | `STATSD_HOST`, `STATSD_PORT` | the host and the port, if none of the four above is set |
 /// | `DD_DOGSTATSD_DISABLE`, `STATSD_ENABLED` | that nothing is sent, if the first says `1`, `true`, `True` or `yes`, or the second `0`, `false`, `False` or `no` |
 /// | `STATSD_MAXUDPSIZE` | how many bytes a packet has over UDP, from 1 to 65507; by default 1432 |
+/// | `STATSD_IPV6` | that the host is looked up for addresses of IPv6 alone, if it says `1`, `true`, `True` or `yes` |
 /// | `STATSD_PREFIX` | the prefix, for a caller that has none of its own |
 /// | `DD_ENV`, `DD_SERVICE`, `DD_VERSION` | the tags `env:..`, `service:..` and `version:..`, in this order |
 /// | `DD_TAGS` | the next tags, separated by commas, or by spaces if it has no comma; each is `K:V`, cut at its first colon, or `V` |
@@ -62,6 +63,7 @@ pub enum Target {
 pub struct Environment {
     target: Target,
     capacity: usize,
+    only_ipv6: bool,
     prefix: String,
     tags: Vec<(Option<String>, String)>,
     container: Option<String>,
@@ -134,7 +136,7 @@ impl Environment {
     pub fn read_from(variable: impl Fn(&str) -> Option<OsString>) -> Result<Environment, EnvironmentError> {
         let values = VARIABLES.map(|name| variable(name).map_or(Vec::new(), OsString::into_encoded_bytes));
         let variables = Variables::new(&values);
-        let (text, port, capacity) = destination(&variables).map_err(fault_of)?;
+        let (text, port, capacity, only_ipv6) = destination(&variables).map_err(fault_of)?;
         let target = match port {
             0 if text.is_empty() => Target::Nowhere,
             0 => Target::Unix(text),
@@ -142,11 +144,10 @@ impl Environment {
         };
         let prefix = environment_prefix(&variables).map_err(fault_of)?;
         let tags = tags_of(&environment_tags(&variables).map_err(fault_of)?);
-        let is_set = values.last().is_some_and(|value| !value.is_empty());
-        let groups = if is_set { control_groups() } else { Vec::new() };
+        let groups = if values[ORIGIN].is_empty() { Vec::new() } else { control_groups() };
         let container = environment_container(&variables, &groups, inode_of(&groups)).map_err(fault_of)?;
         let container = if container.is_empty() { None } else { Some(container) };
-        Ok(Environment { target, capacity, prefix, tags, container })
+        Ok(Environment { target, capacity, only_ipv6, prefix, tags, container })
     }
 
     /// Returns where to send.
@@ -157,6 +158,11 @@ impl Environment {
     /// Returns how many bytes a packet has.
     pub fn capacity(&self) -> usize {
         self.capacity
+    }
+
+    /// Returns whether the host is looked up for addresses of IPv6 alone. It is false if there is no host.
+    pub fn only_ipv6(&self) -> bool {
+        self.only_ipv6
     }
 
     /// Returns the prefix, which is empty by default: `environment.client(environment.prefix())` makes a client with it.
@@ -180,14 +186,15 @@ impl Environment {
     /// [`capacity`](Self::capacity). If nothing is sent, its sink is a [`NopMetricSink`](crate::NopMetricSink). The
     /// prefix is that of [`StatsdClient::from_sink`].
     ///
-    /// Of a name the first address of IPv4 is sent to, or if it has none the first one. A thread looks the name up again
-    /// after a minute, and after a refused packet, but then at most once in a second. If that fails, the address stays.
+    /// Of a name the first address of IPv4 is sent to, or if it has none the first one; with
+    /// [`only_ipv6`](Self::only_ipv6) the first address of IPv6. A thread looks the name up again after a minute, and after
+    /// a refused packet, but then at most once in a second. If that fails, the address stays.
     ///
     /// It fails with `IoError` if the host can't be looked up, if no socket can be made, if no thread can be started, or if
-    /// memory runs out, and with `InvalidInput` if the host has no address.
+    /// memory runs out, and with `InvalidInput` if the host has no address, or with `only_ipv6` none of IPv6.
     pub fn builder(&self, prefix: &str) -> MetricResult<StatsdClientBuilder> {
         let builder = match &self.target {
-            Target::Udp(host, port) => StatsdClient::builder(prefix, udp_sink(host, *port, self.capacity)?),
+            Target::Udp(host, port) => StatsdClient::builder(prefix, self.udp_sink(host, *port)?),
             Target::Unix(path) => unix_builder(prefix, path, self.capacity)?,
             Target::Nowhere => StatsdClient::builder(prefix, NopMetricSink),
         };
@@ -212,13 +219,13 @@ impl Environment {
     pub fn client(&self, prefix: &str) -> MetricResult<StatsdClient> {
         Ok(self.builder(prefix)?.build())
     }
-}
 
-/// Makes a sink over UDP. The name of a host is looked up again and again.
-fn udp_sink(host: &str, port: u16, capacity: usize) -> MetricResult<Buffer<HostSink>> {
-    let periods = if host.parse::<IpAddr>().is_ok() { None } else { Some(Periods::USUAL) };
-    let sink = HostSink::new((host.to_string(), port), periods)?;
-    Ok(Buffer::new(sink, capacity)?)
+    /// Makes a sink over UDP. The name of a host is looked up again and again.
+    fn udp_sink(&self, host: &str, port: u16) -> MetricResult<Buffer<HostSink>> {
+        let periods = if host.parse::<IpAddr>().is_ok() { None } else { Some(Periods::USUAL) };
+        let sink = HostSink::new((host.to_string(), port), self.only_ipv6, periods)?;
+        Ok(Buffer::new(sink, self.capacity)?)
+    }
 }
 
 /// Returns the builder of a client over a Unix socket.

@@ -104,7 +104,7 @@ impl<'a> Settings<'a> {
 }
 
 /// The names of the variables of the environment.
-pub(crate) const VARIABLES: [&str; 16] = [
+pub(crate) const VARIABLES: [&str; 17] = [
     "DD_DOGSTATSD_URL",
     "DD_DOGSTATSD_SOCKET",
     "DD_AGENT_HOST",
@@ -121,7 +121,11 @@ pub(crate) const VARIABLES: [&str; 16] = [
     "STATSD_MAXUDPSIZE",
     "STATSD_PREFIX",
     "DD_ORIGIN_DETECTION_ENABLED",
+    "STATSD_IPV6",
 ];
+
+/// The number of the variable that makes the container of the process the default one.
+pub(crate) const ORIGIN: usize = 15;
 
 /// The values of the variables of the environment, in the order of their names. One that isn't set is empty.
 #[repr(C)]

@@ -148,6 +148,7 @@ unsafe extern "C" {
         size: *mut usize,
         port: *mut u16,
         capacity: *mut usize,
+        only_ipv6: *mut bool,
         variable: *mut u32,
     ) -> u32;
     fn cadence_environment_prefix(
@@ -258,15 +259,18 @@ unsafe fn said(mut call: impl FnMut(*mut u8, usize, &mut usize, &mut u32) -> u32
 }
 
 /// Returns where the variables say to send: a host and its port, or the path of a Unix socket and the port 0, or an empty
-/// text and the port 0 if nothing is sent. The last number is how many bytes a packet has.
-pub(crate) fn destination(variables: &Variables<'_>) -> Result<(String, u16, usize), u32> {
-    let (mut port, mut capacity) = (0, 0);
+/// text and the port 0 if nothing is sent. The last number is how many bytes a packet has, and the last word whether the
+/// host is looked up for addresses of IPv6 alone.
+pub(crate) fn destination(variables: &Variables<'_>) -> Result<(String, u16, usize, bool), u32> {
+    let (mut port, mut capacity, mut only_ipv6) = (0, 0, false);
     // SAFETY: the call reads the values with their lengths, and only writes to the room and the numbers. It writes a part
     // of a value that is UTF-8.
     let text = unsafe {
-        said(|out, room, size, variable| cadence_destination(variables, out, room, size, &mut port, &mut capacity, variable))?
+        said(|out, room, size, variable| {
+            cadence_destination(variables, out, room, size, &mut port, &mut capacity, &mut only_ipv6, variable)
+        })?
     };
-    Ok((text, port, capacity))
+    Ok((text, port, capacity, only_ipv6))
 }
 
 /// Returns the prefix that the variables say.

@@ -44,6 +44,9 @@ fn shown(environment: &Environment) -> Vec<u8> {
     if environment.capacity() != usual {
         text += &format!(" {}", environment.capacity());
     }
+    if environment.only_ipv6() {
+        text += " over IPv6";
+    }
     if !environment.prefix().is_empty() {
         text += &format!(" as {}", environment.prefix());
     }
@@ -158,6 +161,18 @@ fn a_client_sends_to_an_address_of_ipv6() {
     let Ok(server) = UdpSocket::bind("[::1]:0") else { return };
     let port = server.local_addr().unwrap().port();
     let client = read(&format!("DD_AGENT_HOST=[::1] & DD_DOGSTATSD_PORT={port}")).unwrap().client("p").unwrap();
+    client.incr("a").unwrap();
+    client.flush().unwrap();
+    assert_eq!("p.a:1|c\n", packet!(server));
+}
+
+#[test]
+fn a_client_of_ipv6_alone_refuses_an_address_of_ipv4() {
+    let environment = read("STATSD_HOST=127.0.0.1 & STATSD_IPV6=1").unwrap();
+    assert_eq!(ErrorKind::InvalidInput, environment.client("p").unwrap_err().kind());
+    let Ok(server) = UdpSocket::bind("[::1]:0") else { return };
+    let port = server.local_addr().unwrap().port();
+    let client = read(&format!("STATSD_HOST=::1 & STATSD_PORT={port} & STATSD_IPV6=1")).unwrap().client("p").unwrap();
     client.incr("a").unwrap();
     client.flush().unwrap();
     assert_eq!("p.a:1|c\n", packet!(server));

@@ -1,7 +1,7 @@
 // SPDX-License-Identifier: MIT OR Apache-2.0
 //! A sink that sends to a host whose name is looked up again and again, from a socket of its own.
 use super::core::{MetricSink, SinkStats, SocketStats};
-use super::resolve::{no_address, preferred};
+use super::resolve::{found_address, no_address};
 use crate::types::MetricResult;
 use std::io;
 use std::net::{SocketAddr, ToSocketAddrs, UdpSocket};
@@ -51,14 +51,18 @@ pub(crate) struct HostSink {
 
 impl HostSink {
     /// Looks the host up, and makes a socket. Without periods the host is an address, which is not looked up again.
-    pub(crate) fn new<A: ToSocketAddrs + Send + 'static>(host: A, periods: Option<Periods>) -> MetricResult<HostSink> {
-        let address = preferred(&host)?.ok_or_else(no_address)?;
+    pub(crate) fn new<A: ToSocketAddrs + Send + 'static>(
+        host: A,
+        only_ipv6: bool,
+        periods: Option<Periods>,
+    ) -> MetricResult<HostSink> {
+        let address = found_address(&host, only_ipv6)?.ok_or_else(no_address)?;
         let way = Arc::new(RwLock::new(Way::to(address)?));
         let refused = match periods {
             Some(periods) => {
                 let (refused, told) = mpsc::sync_channel(1);
                 let followed = Arc::clone(&way);
-                let run = move || follow(&host, &followed, &told, periods);
+                let run = move || follow(&host, only_ipv6, &followed, &told, periods);
                 thread::Builder::new().name("cadence".to_string()).spawn(run)?;
                 Some(refused)
             }
@@ -85,7 +89,7 @@ impl MetricSink for HostSink {
 }
 
 /// Looks a name up again and again, until the sink is dropped.
-fn follow<A: ToSocketAddrs>(host: &A, way: &RwLock<Way>, told: &Receiver<()>, periods: Periods) {
+fn follow<A: ToSocketAddrs>(host: &A, only_ipv6: bool, way: &RwLock<Way>, told: &Receiver<()>, periods: Periods) {
     loop {
         let last = Instant::now();
         match told.recv_timeout(periods.after_lookup) {
@@ -99,7 +103,7 @@ fn follow<A: ToSocketAddrs>(host: &A, way: &RwLock<Way>, told: &Receiver<()>, pe
                 }
             },
         }
-        move_to(preferred(host), way);
+        move_to(found_address(host, only_ipv6), way);
     }
 }
 

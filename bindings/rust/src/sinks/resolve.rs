@@ -38,9 +38,9 @@ fn family_of(socket: &UdpSocket) -> Option<bool> {
 }
 
 /// Returns the first address of IPv4, or if there is none the first one. Most servers listen on IPv4 alone, also on a
-/// machine whose `localhost` has both families.
-pub(crate) fn preferred<A: ToSocketAddrs>(name: &A) -> io::Result<Option<SocketAddr>> {
-    first_address(name, Some(true))
+/// machine whose `localhost` has both families. If only addresses of IPv6 are looked up, it is the first one of IPv6.
+pub(crate) fn found_address<A: ToSocketAddrs>(name: &A, only_ipv6: bool) -> io::Result<Option<SocketAddr>> {
+    Ok(first_address(name, Some(!only_ipv6))?.filter(|address| !only_ipv6 || address.is_ipv6()))
 }
 
 impl Resolver {

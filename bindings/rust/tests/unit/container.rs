@@ -1,6 +1,6 @@
 // SPDX-License-Identifier: MIT OR Apache-2.0
 //! The container of the process, by the rows of `containers.rows`.
-use super::{control_groups, environment_container, inode_of, Environment, Variables, VARIABLES};
+use super::{control_groups, environment_container, inode_of, Environment, Variables, ORIGIN, VARIABLES};
 
 /// Returns the bytes of a text in a row.
 fn bytes(text: &str) -> Vec<u8> {
@@ -17,7 +17,7 @@ fn bytes(text: &str) -> Vec<u8> {
 /// Returns the default container if the switch has this text, for a process with these control groups.
 fn container(switch: &str, groups: &[u8], inode: u64) -> Result<String, u32> {
     let mut values = VARIABLES.map(|_| Vec::new());
-    values[VARIABLES.len() - 1] = switch.as_bytes().to_vec();
+    values[ORIGIN] = switch.as_bytes().to_vec();
     environment_container(&Variables::new(&values), groups, inode)
 }
 

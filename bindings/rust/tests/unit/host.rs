@@ -75,11 +75,11 @@ fn the_address_of_each_row_is_sent_to() {
         seen += 1;
         // Without IPv6 there is no such server.
         let Some((server, port)) = server(wanted) else { continue };
-        let now = HostSink::new(Name::of(given, port), None).unwrap();
+        let now = HostSink::new(Name::of(given, port), false, None).unwrap();
         now.emit("a:1|c").unwrap();
         reaches(&now, &server);
         let name = Name::of("127.0.0.9", port);
-        let later = HostSink::new(name.clone(), often(SHORT, SHORT)).unwrap();
+        let later = HostSink::new(name.clone(), false, often(SHORT, SHORT)).unwrap();
         name.is_now(given);
         reaches(&later, &server);
     }
@@ -87,10 +87,25 @@ fn the_address_of_each_row_is_sent_to() {
 }
 
 #[test]
+fn of_ipv6_alone_no_other_address_is_sent_to() {
+    assert!(HostSink::new(Name::of("127.0.0.1", 9), true, None).is_err());
+    let Some((server, port)) = server("::1") else { return };
+    let name = Name::of("127.0.0.1 ::1", port);
+    let sink = HostSink::new(name.clone(), true, often(SHORT, SHORT)).unwrap();
+    reaches(&sink, &server);
+    name.is_now("127.0.0.1");
+    let before = name.lookups();
+    while name.lookups() < before + 3 {
+        std::thread::sleep(SHORT);
+    }
+    reaches(&sink, &server);
+}
+
+#[test]
 fn a_lookup_that_fails_keeps_the_address() {
     let (server, port) = server("127.0.0.1").unwrap();
     let name = Name::of("127.0.0.1", port);
-    let sink = HostSink::new(name.clone(), often(SHORT, LONG)).unwrap();
+    let sink = HostSink::new(name.clone(), false, often(SHORT, LONG)).unwrap();
     name.is_now("");
     let before = name.lookups();
     while name.lookups() < before + 3 {
@@ -98,7 +113,7 @@ fn a_lookup_that_fails_keeps_the_address() {
     }
     assert_eq!(5, sink.emit("a:1|c").unwrap());
     reaches(&sink, &server);
-    assert!(HostSink::new(name, None).is_err());
+    assert!(HostSink::new(name, false, None).is_err());
 }
 
 #[test]
@@ -106,7 +121,7 @@ fn a_refusal_lets_the_name_be_looked_up_soon() {
     let (server, port) = server("127.0.0.1").unwrap();
     // The system refuses to send there.
     let name = Name::of("255.255.255.255", port);
-    let sink = HostSink::new(name.clone(), often(LONG, SHORT)).unwrap();
+    let sink = HostSink::new(name.clone(), false, often(LONG, SHORT)).unwrap();
     name.is_now("127.0.0.1");
     assert!(sink.emit("a:1|c").is_err());
     reaches(&sink, &server);
@@ -118,7 +133,7 @@ fn a_refusal_lets_the_name_be_looked_up_soon() {
 #[test]
 fn a_refusal_and_an_hour_make_no_lookup() {
     let name = Name::of("255.255.255.255", 9);
-    let sink = HostSink::new(name.clone(), often(LONG, LONG)).unwrap();
+    let sink = HostSink::new(name.clone(), false, often(LONG, LONG)).unwrap();
     for _ in 0..10 {
         assert!(sink.emit("a:1|c").is_err());
     }
@@ -131,7 +146,7 @@ fn a_refusal_and_an_hour_make_no_lookup() {
 #[test]
 fn the_drop_ends_the_thread() {
     let name = Name::of("127.0.0.1", 9);
-    let sink = HostSink::new(name.clone(), often(LONG, LONG)).unwrap();
+    let sink = HostSink::new(name.clone(), false, often(LONG, LONG)).unwrap();
     assert_eq!(2, Arc::strong_count(&name.0));
     drop(sink);
     let start = Instant::now();
