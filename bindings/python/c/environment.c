@@ -6,10 +6,10 @@
 
 /* Reads the values of the variables, which are bytes, in the order of cadence.h. Returns false if it has set an exception. */
 static bool read_variables(PyObject *values, cadence_variables *to) {
-    return PyArg_ParseTuple(values, "y#y#y#y#y#y#y#y#y#y#y#y#y#y#y#y#", TEXT(url), TEXT(socket), TEXT(agent_host), TEXT(agent_port),
+    return PyArg_ParseTuple(values, "y#y#y#y#y#y#y#y#y#y#y#y#y#y#y#y#y#", TEXT(url), TEXT(socket), TEXT(agent_host), TEXT(agent_port),
                             TEXT(statsd_host), TEXT(statsd_port), TEXT(env), TEXT(service), TEXT(version), TEXT(tags),
                             TEXT(entity_id), TEXT(disable), TEXT(enabled), TEXT(max_size),
-                            TEXT(prefix), TEXT(origin));
+                            TEXT(prefix), TEXT(origin), TEXT(ipv6));
 }
 
 /* Sets a VariableError, or a MemoryError. */
@@ -31,12 +31,14 @@ struct groups {
     unsigned long long inode;
 };
 
-/* Returns the text of the tags, of the prefix or of the container, 0 and 0, or where to send: the host and the port, or a path and 0, or an
- * empty text and 0, with the number of bytes that a packet has. */
+/* Returns the text of the tags, of the prefix or of the container, 0, 0 and False, or where to send: the host and the port,
+ * or a path and 0, or an empty text and 0, with the number of bytes that a packet has, and whether the host is looked up
+ * for addresses of IPv6 alone. */
 static PyObject *said(PyObject *values, enum what what, const struct groups *groups) {
     cadence_variables variables;
     uint32_t variable = 0, status = CADENCE_TOO_SMALL;
     uint16_t port = 0;
+    bool only_ipv6 = false;
     size_t len = 1, room = 0, capacity = 0;
     PyObject *made = NULL;
     uint8_t *text = NULL, *more;
@@ -49,9 +51,11 @@ static PyObject *said(PyObject *values, enum what what, const struct groups *gro
                      ? cadence_environment_container(&variables, (const uint8_t *)groups->text, (size_t)groups->len,
                                                      groups->inode, text, room, &len, &variable)
                  : what == PREFIX ? cadence_environment_prefix(&variables, text, room, &len, &variable)
-                                  : cadence_destination(&variables, text, room, &len, &port, &capacity, &variable);
+                                  : cadence_destination(&variables, text, room, &len, &port, &capacity, &only_ipv6, &variable);
     }
-    if (status == CADENCE_OK) made = Py_BuildValue("(s#in)", (const char *)text, (Py_ssize_t)len, (int)port, (Py_ssize_t)capacity);
+    if (status == CADENCE_OK)
+        made = Py_BuildValue("(s#inO)", (const char *)text, (Py_ssize_t)len, (int)port, (Py_ssize_t)capacity,
+                             only_ipv6 ? Py_True : Py_False);
     else refused(status, variable);
     PyMem_Free(text);
     return made;

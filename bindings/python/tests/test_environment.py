@@ -33,11 +33,12 @@ def variables(text):
 
 def shown(given):
     """Returns what is read from variables, as a row has it."""
-    host, port, size = environment.address(given)
+    host, port, size, only_ipv6 = environment.address(given)
     target = f"unix {host.removeprefix('unix://')}" if host.startswith("unix://") else f"udp {host} {port}"
     target = "nowhere" if host == environment.NOWHERE else target
     if size != (1432 if target.startswith("udp") else 8192):
         target += f" {size}"
+    target += " over IPv6" if only_ipv6 else ""
     if prefix := environment.prefix(given):
         target += f" as {prefix}"
     tags = [tag if isinstance(tag, str) else "=".join(tag) for tag in environment.tags(given)]
@@ -141,6 +142,38 @@ class Clients(ClientTest):
         self.assertEqual(receiver.packets(), ["a:1|c\n"])
         receiver.socket.close()
 
+    def test_ipv6_alone(self):
+        try:
+            receiver = Receiver(socket.AF_INET6, ("::1", 0))
+        except OSError as fault:
+            self.skipTest(f"this machine has no IPv6: {fault}")
+        port = receiver.address[1]
+        rows = [(socket.AF_INET, ("127.0.0.1", port)), (socket.AF_INET6, ("::1", port, 0, 0))]
+
+        def found(host, port, family, *_):
+            if host != "agent.test":
+                raise socket.gaierror(socket.EAI_NONAME, "no address")
+            return [(row[0], socket.SOCK_DGRAM, 0, "", row[1]) for row in rows if family in (0, row[0])]
+        given = f"STATSD_HOST=agent.test & STATSD_PORT={port} & STATSD_IPV6="
+        with mock.patch("socket.getaddrinfo", found):
+            for switch, words, family in (("1", {}, socket.AF_INET6), ("0", {}, socket.AF_INET), ("", {"ipv6": True}, socket.AF_INET6),
+                                          ("1", {"ipv6": False}, socket.AF_INET),
+                                          ("1", {"host": "agent.test", "port": port}, socket.AF_INET)):
+                with self.subTest(switch=switch, words=words):
+                    self.assertEqual(self.made(given + switch, **words)._family, family)
+            client = self.made(given + "yes")
+            client.incr("a")
+            client.close()
+        self.assertEqual((receiver.packets(), self.faults), (["a:1|c\n"], []))
+        receiver.socket.close()
+
+    def test_ipv6_refuses_an_address_of_ipv4(self):
+        client = self.made(f"STATSD_PORT={self.receiver.address[1]} & STATSD_IPV6=True")
+        client.incr("a")
+        client.close()
+        self.assertEqual((self.receiver.packets(), client.counts()["sent"]), ([], 0))
+        self.assertIsInstance(self.faults[0], socket.gaierror)
+
     def test_unix(self):
         with tempfile.TemporaryDirectory() as folder:
             receiver = Receiver(socket.AF_UNIX, folder + "/statsd.sock")
@@ -180,7 +213,8 @@ class Clients(ClientTest):
             self.assertEqual((self.receiver.packets(), self.faults, client.counts()["sent"]), ([], [], 1))
 
     def test_a_variable_that_cant_be_used_makes_nothing(self):
-        for given in ("DD_DOGSTATSD_URL=tcp://agent", "DD_AGENT_HOST=a b", "STATSD_PORT=0", "DD_TAGS=a|b", "DD_ENTITY_ID=\\xff"):
+        for given in ("DD_DOGSTATSD_URL=tcp://agent", "DD_AGENT_HOST=a b", "STATSD_PORT=0", "STATSD_IPV6=6", "DD_TAGS=a|b",
+                      "DD_ENTITY_ID=\\xff"):
             with self.subTest(given=given), mock.patch.object(StatsClient, "__init__") as made:
                 with self.assertRaises(VariableError):
                     self.made(given)

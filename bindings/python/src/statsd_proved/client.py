@@ -115,7 +115,7 @@ class StatsClient(Metrics):
 
     @classmethod
     def from_environment(cls, prefix: str | None = None, *, host: str | None = None, port: int | None = None,
-                         maxudpsize: int | None = None, ipv6: bool = False, tags: Tags | None = None,
+                         maxudpsize: int | None = None, ipv6: bool | None = None, tags: Tags | None = None,
                          container: str | None = None, packets: int = 64, flush_every: float | None = 1.0,
                          on_error: Callable[[Exception], object] | None = None, raises: bool = False, strict: bool = False,
                          clean: bool = False, aggregate: bool = False, telemetry: str | None = None,
@@ -134,7 +134,7 @@ class StatsClient(Metrics):
         key `env`, `service` or `version` is left out if the variable of that key is set.
 
         A packet has at most 1432 bytes over UDP, unless STATSD_MAXUDPSIZE says otherwise, and 8192 bytes over a Unix socket.
-        `maxudpsize` wins over both.
+        `maxudpsize` wins over both. If STATSD_IPV6 says yes, only addresses of IPv6 are taken, as with `ipv6`, which wins.
 
         If DD_ORIGIN_DETECTION_ENABLED says yes, the container is that of the process, by the file /proc/self/cgroup;
         `container` and `origin_detection` win over it.
@@ -144,15 +144,16 @@ class StatsClient(Metrics):
         those of the variables. The call raises a VariableError if a variable can't be used, before it makes anything, and
         what the constructor raises."""
         if host is None and port is None:
-            host, port, size = environment.address(os.environb)
+            host, port, size, only_ipv6 = environment.address(os.environb)
             maxudpsize = size if maxudpsize is None else maxudpsize
+            ipv6 = only_ipv6 if ipv6 is None else ipv6
         prefix = environment.prefix(os.environb) if prefix is None else prefix
         own = tags or ()
         tags = [*environment.tags(os.environb), *(own.items() if isinstance(own, Mapping) else own)]
         if container is None:
             container = environment.container(os.environb, origin_detection)
         return cls(host="localhost" if host is None else host, port=8125 if port is None else port, prefix=prefix,
-                   maxudpsize=1432 if maxudpsize is None else maxudpsize, ipv6=ipv6, tags=tags, container=container,
+                   maxudpsize=1432 if maxudpsize is None else maxudpsize, ipv6=bool(ipv6), tags=tags, container=container,
                    packets=packets, flush_every=flush_every, on_error=on_error, raises=raises, strict=strict, clean=clean,
                    aggregate=aggregate, telemetry=telemetry,
                    telemetry_min_flush_interval=telemetry_min_flush_interval)

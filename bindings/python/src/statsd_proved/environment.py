@@ -18,8 +18,8 @@ NOWHERE = "nowhere://"
 # the names of the variables, in the order of cadence.h
 _NAMES = (b"DD_DOGSTATSD_URL", b"DD_DOGSTATSD_SOCKET", b"DD_AGENT_HOST", b"DD_DOGSTATSD_PORT", b"STATSD_HOST", b"STATSD_PORT",
           b"DD_ENV", b"DD_SERVICE", b"DD_VERSION", b"DD_TAGS", b"DD_ENTITY_ID", b"DD_DOGSTATSD_DISABLE", b"STATSD_ENABLED",
-          b"STATSD_MAXUDPSIZE", b"STATSD_PREFIX", b"DD_ORIGIN_DETECTION_ENABLED")
-
+          b"STATSD_MAXUDPSIZE", b"STATSD_PREFIX", b"DD_ORIGIN_DETECTION_ENABLED", b"STATSD_IPV6")
+_ORIGIN = b"DD_ORIGIN_DETECTION_ENABLED"
 
 # the number of the control groups of the host
 _HOST = 4026531835
@@ -40,11 +40,11 @@ def _values(variables: Variables) -> tuple[bytes, ...]:
     return tuple(variables.get(name, b"") for name in _NAMES)
 
 
-def address(variables: Variables) -> tuple[str, int, int]:
-    """Returns the host, which is `unix://PATH` for a Unix socket, or NOWHERE if nothing is sent, the port, and how many bytes a
-    packet has."""
-    text, port, size = _core.destination(*_values(variables))
-    return (text, port, size) if port else (UNIX + text if text else NOWHERE, DEFAULT_PORT, size)
+def address(variables: Variables) -> tuple[str, int, int, bool]:
+    """Returns the host, which is `unix://PATH` for a Unix socket, or NOWHERE if nothing is sent, the port, how many bytes a
+    packet has, and whether only addresses of IPv6 are looked up."""
+    text, port, size, ipv6 = _core.destination(*_values(variables))
+    return (text, port, size, ipv6) if port else (UNIX + text if text else NOWHERE, DEFAULT_PORT, size, ipv6)
 
 
 def prefix(variables: Variables) -> str:
@@ -54,19 +54,18 @@ def prefix(variables: Variables) -> str:
 
 def tags(variables: Variables) -> list[Tag]:
     """Returns the tags, in their order: pairs of a key and a text, and texts."""
-    text, _, _ = _core.environment_tags(*_values(variables))
+    text, *_ = _core.environment_tags(*_values(variables))
     return [_tag(tag) for tag in text.removeprefix("|#").split(",")] if text else []
 
 
 def container(variables: Variables, is_wanted: bool | None = None) -> str | None:
     """Returns the container of the process if a variable says that it is the default one, or `is_wanted` in its place."""
-    values = _values(variables)
     if is_wanted is not None:
-        values = (*values[:-1], b"1" if is_wanted else b"0")
-    if not values[-1]:
+        variables = {**variables, _ORIGIN: b"1" if is_wanted else b"0"}
+    if not variables.get(_ORIGIN):
         return None
     groups = _groups()
-    return _core.environment_container(groups, _inode(groups), *values)[0] or None
+    return _core.environment_container(groups, _inode(groups), *_values(variables))[0] or None
 
 
 def _groups() -> bytes:
