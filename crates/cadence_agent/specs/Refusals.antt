@@ -39,7 +39,7 @@ IsUnixRefusal path _ = ⊥
 -- only if it has a fault.
 abbrev pub MayBeInvalid : {A : Type 0} → Destination A → Type 0
 MayBeInvalid place.Nowhere = ⊥
-MayBeInvalid (place.Udp host port capacity) = ⊤
+MayBeInvalid (place.Udp host port capacity only_ipv6) = ⊤
 MayBeInvalid (place.Unix path) = (fault : PathError) × IsFault (string_bytes path) fault
 
 -- A sink to a destination is not made because the destination is an invalid input, because the system refused the

@@ -41,7 +41,7 @@ HasAgentBuffer (Nowhere s) = ⊤
 -- The sink sends to a destination of this kind, with a buffer of as many bytes as the destination says, or nowhere. A
 -- sink over a Unix socket is made only for a text that can be a path.
 abbrev pub GoesTo : {A B R : Type 0} → Destination A → EnvironmentSink R B → Type 0
-GoesTo (place.Udp host port capacity) (Udp s) = udp_buffer s ≡ capacity
+GoesTo (place.Udp host port capacity only_ipv6) (Udp s) = udp_buffer s ≡ capacity
 GoesTo (place.Unix path) (Unix s) = (unix_buffer s ≡ 8192) × IsPath (string_bytes path)
 GoesTo place.Nowhere (Nowhere s) = ⊤
 GoesTo _ _ = ⊥
