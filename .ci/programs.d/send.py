@@ -60,9 +60,25 @@ def send_packets(program):
             run.stdin.write(b'c last 1')
             run.stdin.close()
             yield 'the end', (status_of(run), next_datagram(server)), (0, b'last:1|c\n')
+        only_ipv6 = result_of([program, *to, *ONE], b'', environment={'STATSD_IPV6': '1'})
+        yield 'to an address of IPv4 by an option', (*only_ipv6, next_datagram(server)), (0, b'', b'', ONE_SENT)
+        yield from send_by_ipv6(program)
         yield from send_paced([program, *to], server)
         yield from send_added([program, *to], server)
         yield from send_held([program, *to], server)
+
+
+def send_by_ipv6(program):
+    """Yields a datagram to an address of IPv6, where only addresses of IPv6 are wanted."""
+    with socket.socket(socket.AF_INET6, socket.SOCK_DGRAM) as server:
+        try:
+            server.bind(('::1', 0))
+        except OSError:
+            return  # this machine has no IPv6
+        server.settimeout(LONGEST)
+        wanted = {'STATSD_HOST': '::1', 'STATSD_PORT': str(server.getsockname()[1]), 'STATSD_IPV6': 'yes'}
+        got = result_of([program, *ONE], b'', environment=wanted)
+        yield 'to an address of IPv6', (*got, next_datagram(server)), (0, b'', b'', ONE_SENT)
 
 
 def send_paced(command, server):

@@ -100,6 +100,8 @@ SEND_CASES = [
       for source, words, environment, port in [
           ('--to', ['--to', f'{NO_HOST}:1', *ONE], {}, 1), ('DD_AGENT_HOST', ONE, {'DD_AGENT_HOST': NO_HOST}, 8125),
           ('STATSD_HOST', ONE, {'STATSD_HOST': NO_HOST, 'STATSD_PORT': '7'}, 7)]],
+    ('an address of IPv4 where only those of IPv6 are wanted', ONE, {'STATSD_HOST': '127.0.0.1', 'STATSD_IPV6': '1'}, b'', 1, b'',
+     error_lines(b'cannot find 127.0.0.1:8125 (STATSD_HOST): the host has no address of IPv6, which STATSD_IPV6 asks for')),
     ('a path that is none', ONE, {'DD_DOGSTATSD_URL': 'unix:///nowhere/s'}, b'', 1, b'',
      system_error('cannot send to unix:/nowhere/s (DD_DOGSTATSD_URL)', errno.ENOENT)),
     ('no memory', ['--print', '--capacity', str(2 ** 64 - 1)], {}, b'', 3, b'', error_lines(b'out of memory')),

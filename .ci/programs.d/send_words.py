@@ -50,6 +50,7 @@ WANTED = {
     'DD_DOGSTATSD_DISABLE': '1, true or yes, or 0, false or no',
     'STATSD_ENABLED': '1, true or yes, or 0, false or no',
     'STATSD_MAXUDPSIZE': '1 to 65507 bytes, as in STATSD_MAXUDPSIZE=1432',
+    'STATSD_IPV6': '1, true or yes, or 0, false or no',
     'DD_ENV': 'no commas, bars or newlines, as in DD_ENV=prod',
     'DD_SERVICE': 'no commas, bars or newlines, as in DD_SERVICE=shop',
     'DD_VERSION': 'no commas, bars or newlines, as in DD_VERSION=1.2.3',
@@ -62,6 +63,7 @@ MALFORMED = [
     ('DD_DOGSTATSD_SOCKET', 'run/s'), ('DD_AGENT_HOST', '/run/s'), ('DD_DOGSTATSD_PORT', '0'), ('STATSD_HOST', b'\xff'), ('STATSD_PORT', '65536'),
     ('STATSD_PORT', 'http'), ('STATSD_PORT', b'\xff'), ('DD_ENV', 'a,b'), ('DD_SERVICE', 'a|b'), ('DD_VERSION', 'a\nb'),
     ('DD_TAGS', ':v'), ('DD_ENTITY_ID', ','), ('DD_DOGSTATSD_DISABLE', 'on'), ('STATSD_ENABLED', 'off'), ('STATSD_MAXUDPSIZE', '0'),
+    ('STATSD_IPV6', 'on'),
 ]
 OVERRIDDEN = {'DD_DOGSTATSD_URL': 'x', 'DD_DOGSTATSD_SOCKET': 'x', 'DD_AGENT_HOST': '/', 'DD_DOGSTATSD_PORT': 'x', 'STATSD_HOST': '/',
               'STATSD_PORT': 'http'}

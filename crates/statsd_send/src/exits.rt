@@ -9,6 +9,9 @@ use std::process::ExitCode;
 /// Why nothing is sent if a request for memory was refused.
 pub const OUT_OF_MEMORY: &str = "out of memory";
 
+/// Why nothing is sent if a host has only addresses that a variable of the environment doesn't want.
+pub const NO_ADDRESS_OF_IPV6: &str = "the host has no address of IPv6, which STATSD_IPV6 asks for";
+
 /// Prints to the standard error why nothing is sent, and returns the exit status.
 pub fn exit_with_error<T: fmt::Display + Drop>(rt: &HostRuntime, status: u8, why: T) -> ExitCode {
     let _ = eprintln!(rt; "statsd_send: {why}");

@@ -1,8 +1,9 @@
 //! Packets to a host, whose name is looked up again and again.
 ghost use Rattle.cadence_sinks.specs.Sockets.{is_io};
 
+use cadence_environment::look_up_host;
 use cadence_errors::SinkError;
-use cadence_resolve::{bind_socket, find_address};
+use cadence_resolve::bind_socket;
 use cadence_sinks::PacketSocket;
 use std::net::{SocketAddr, UdpSocket};
 use std::time::{Duration, Instant};
@@ -17,12 +18,13 @@ const PERIOD: u64 = 60;
 const PERIOD_AFTER_REFUSAL: u64 = 1;
 
 /// A socket that sends each packet to a host. It looks the host up again each minute, and after a refusal, but then at
-/// most once in a second. If the lookup fails, it keeps the address.
+/// most once in a second. If the lookup fails, it keeps the address. Only addresses of IPv6 are looked up if no others are
+/// wanted.
 #[derive(Drop)]
 pub struct SocketOfHost<'a> {
     rt: HostRuntime,
-    host: &'a str,
-    port: u16,
+    host: (&'a str, u16),
+    only_ipv6: bool,
     socket: UdpSocket,
     address: SocketAddr,
     last_lookup: Option<Instant>,
@@ -33,8 +35,8 @@ impl<'a> SocketOfHost<'a> {
     /// Returns a socket that sends to a host and a port, whose address was just looked up.
     pub fn new(
         rt: HostRuntime,
-        host: &'a str,
-        port: u16,
+        host: (&'a str, u16),
+        only_ipv6: bool,
         socket: UdpSocket,
         address: SocketAddr,
     ) -> SocketOfHost<'a> {
@@ -42,7 +44,7 @@ impl<'a> SocketOfHost<'a> {
         SocketOfHost {
             rt,
             host,
-            port,
+            only_ipv6,
             socket,
             address,
             last_lookup,
@@ -77,7 +79,7 @@ impl<'a> SocketOfHost<'a> {
         if !self.is_lookup_due() {
             return;
         }
-        let Ok(Some(address)) = find_address(&self.rt, (self.host, self.port)) else {
+        let Ok(Some(address)) = look_up_host(&self.rt, self.host, self.only_ipv6) else {
             return;
         };
         if address == self.address {

@@ -20,15 +20,17 @@ mod unix;
 use crate::arguments::{ArgumentError, Arguments, guarded, read_arguments};
 use crate::asked::{asked_input, asked_limits, asked_pace, asked_patience, asked_sampler};
 use crate::exits::{
-    OUT_OF_MEMORY, TooMuch, exit_with_error, exit_without_address, exit_without_defaults,
-    exit_without_environment, exit_without_sample, exit_without_socket, exit_without_words,
+    NO_ADDRESS_OF_IPV6, OUT_OF_MEMORY, TooMuch, exit_with_error, exit_without_address,
+    exit_without_defaults, exit_without_environment, exit_without_sample, exit_without_socket,
+    exit_without_words,
 };
 use crate::host::{LONGEST_DATAGRAM, SocketOfHost};
 use crate::place::{Place, check_destination, find_place};
 use crate::unix::SocketOfPath;
 use cadence_agent::{Destination, Environment};
+use cadence_environment::look_up_host;
 use cadence_flow::io::{LineBuffer, PacketWriter};
-use cadence_resolve::{bind_socket, find_address};
+use cadence_resolve::bind_socket;
 use cadence_send::{
     LastingWriter, LossBoard, Outlet, PacketPrinter, RunError, Sending, SummedPacker, run_words,
 };
@@ -117,7 +119,7 @@ fn send(rt: &HostRuntime, arguments: &Arguments<'_>) -> ExitCode {
     match &place.target {
         Destination::Nowhere => print_packets(rt, arguments, &defaults, io::sink()),
         Destination::Udp { host, port, .. } => {
-            send_to_host(rt, arguments, defaults, &place, host, *port)
+            send_to_host(rt, arguments, defaults, &place, (host.as_str(), *port))
         }
         Destination::Unix { path } => send_to_path(rt, arguments, defaults, &place, path),
     }
@@ -170,11 +172,12 @@ fn send_to_host(
     arguments: &Arguments<'_>,
     defaults: Defaults,
     place: &Place,
-    host: &str,
-    port: u16,
+    host: (&str, u16),
 ) -> ExitCode {
-    let address = match find_address(rt, (host, port)) {
+    let only_ipv6 = place.target.only_ipv6();
+    let address = match look_up_host(rt, host, only_ipv6) {
         Ok(Some(address)) => address,
+        Ok(None) if only_ipv6 => return exit_without_address(rt, 1, place, NO_ADDRESS_OF_IPV6),
         Ok(None) => return exit_without_address(rt, 1, place, "the host has no address"),
         Err(why) if why.kind() == ErrorKind::OutOfMemory => {
             return exit_without_address(rt, 3, place, OUT_OF_MEMORY);
@@ -186,7 +189,7 @@ fn send_to_host(
     };
     match bind_socket(rt, address) {
         Ok(socket) => {
-            let socket = SocketOfHost::new(clock, host, port, socket, address);
+            let socket = SocketOfHost::new(clock, host, only_ipv6, socket, address);
             let writer = SocketWriter::new(socket);
             send_with(rt, arguments, defaults, place, writer, LONGEST_DATAGRAM)
         }

@@ -87,11 +87,12 @@ fn source_of(rt: &HostRuntime) -> &'static str {
     "by default"
 }
 
-// Returns a host, a port and how many bytes a packet has as one place.
+// Returns a host, a port and how many bytes a packet has as one place. The last word of the three is whether the host is
+// looked up for addresses of IPv6 alone.
 fn place_of_host(
     rt: &HostRuntime,
     host: &str,
-    (port, capacity): (u16, usize),
+    (port, capacity, only_ipv6): (u16, usize, bool),
     source: &'static str,
 ) -> Result<Place, AllocError> {
     let alloc = rt.alloc();
@@ -105,6 +106,7 @@ fn place_of_host(
             host: String::from_str(alloc, host)?,
             port,
             capacity,
+            only_ipv6,
         },
         text,
         source,
@@ -156,15 +158,19 @@ pub fn find_place<'a>(rt: &HostRuntime, to: Option<Asked<'a>>) -> Result<Place, 
         Some(Asked::Host(target)) => {
             let (host, port) = target.rsplit_once(':').unwrap_or((target, ""));
             let port = read_port(port).unwrap_or(8125);
-            let numbers = (port, DEFAULT_CAPACITY);
-            Ok(place_of_host(rt, without_brackets(host), numbers, "--to")?)
+            let settings = (port, DEFAULT_CAPACITY, false);
+            Ok(place_of_host(rt, without_brackets(host), settings, "--to")?)
         }
         None => match Environment::read_destination(rt)? {
             Destination::Udp {
                 host,
                 port,
                 capacity,
-            } => Ok(place_of_host(rt, &host, (port, capacity), source_of(rt))?),
+                only_ipv6,
+            } => {
+                let settings = (port, capacity, only_ipv6);
+                Ok(place_of_host(rt, &host, settings, source_of(rt))?)
+            }
             Destination::Unix { path } => Ok(place_of_path(rt, &path, source_of(rt))?),
             Destination::Nowhere => Ok(no_place(rt)?),
         },
