@@ -45,6 +45,9 @@ fn said(alloc: Global, environment: &Environment) -> Result<String, AllocError> 
     if capacity != usual {
         write!(&mut text, " {capacity}")?;
     }
+    if environment.destination().only_ipv6() {
+        text.push_str(" over IPv6")?;
+    }
     if !environment.prefix().is_empty() {
         write!(&mut text, " as {}", environment.prefix())?;
     }
