@@ -334,6 +334,7 @@ static void by_ipv6(void) {
     uint16_t port = 0;
     char text[8];
     cadence_udp out = CADENCE_UDP_CLOSED;
+    CHECK(unsetenv("DD_DOGSTATSD_URL") == 0);
     setenv("STATSD_IPV6", "1", 1);
     setenv("STATSD_HOST", "127.0.0.1", 1);
     CHECK(cadence_udp_connect_environment(&out, NULL, 512, HOUR) != NULL && out.socket == NULL);
