@@ -7,8 +7,8 @@ use Rattle.cadence_events.specs.Refusals.{MakesLine}
 use Rattle.cadence_events.specs.declared.refusal.Unfit.{Unfit}
 use Rattle.cadence_events.specs.declared.refusal.Unfit.TheVariants as unfit
 use Rattle.cadence_c.specs.Events.{MakesEvent}
-use Rattle.cadence_c.specs.Status.{CADENCE_FULL, CADENCE_OK, code_of_unfit, error_of}
-use Rattle.cadence_c.specs.declared.status.StatusError.{StatusError}
+use Rattle.cadence_host.specs.Status.{CADENCE_FULL, CADENCE_OK, code_of_unfit, error_of}
+use Rattle.cadence_host.specs.declared.status.StatusError.{StatusError}
 
 -- A status that names a text is at least 10, and each other status is less.
 late : (why : Unfit) → 10 ≤ code_of_unfit why

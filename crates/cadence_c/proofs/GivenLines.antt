@@ -4,7 +4,7 @@ use Rattle.std.specs.Prelude.{IsSomeAnd, OnErr, OnOk, option_map}
 use Rattle.std.proofs.Math.Logic.{∥∥₁_map}
 use Rattle.cadence_aggregating.specs.Summed.{AddsQuietly, accepted_in, gone_in, held_in, limits_in, waiting_in}
 use Rattle.cadence_aggregating.specs.declared.summed.SummedLines.{SummedLines}
-use Rattle.cadence_c.specs.ClientState.{ClientState, KeepsLine}
+use Rattle.cadence_host.specs.ClientState.{ClientState, KeepsLine}
 use Rattle.cadence_c.specs.declared.sums_handle.Sums.{Sums}
 use Rattle.cadence_c.specs.declared.sums_handle.SumsHandle.{SumsHandle}
 use Rattle.cadence_c.specs.SumsHandle.{contents}

@@ -1,11 +1,12 @@
 -- What a copy into a buffer of C says, and calls that say less of their value.
 use Rattle.std.proofs.Common.{◌≡◌, ◌≢◌, ◌⊎◌, ◌<◌, ◌≤◌, ℕ, List, inl, inr, length, subst, sym, take, ◌∙◌}
-use Rattle.cadence_c.specs.Calls.{IsNoChange}
-use Rattle.cadence_c.specs.Results.{Formats, Keeps, Tests, WritesOut}
-use Rattle.cadence_c.specs.Status.{CADENCE_OK, CADENCE_TOO_SMALL}
-use Rattle.cadence_c.specs.declared.call.COptions.{COptions}
+use Rattle.cadence_host.specs.Calls.{IsNoChange}
+use Rattle.cadence_c.specs.Results.{Formats, Keeps, WritesOut}
+use Rattle.cadence_host.specs.Tests.{Tests}
+use Rattle.cadence_host.specs.Status.{CADENCE_OK, CADENCE_TOO_SMALL}
+use Rattle.cadence_host.specs.declared.call.COptions.{COptions}
 use Rattle.cadence_c.specs.declared.handle.Handle.{Handle}
-use Rattle.cadence_c.specs.declared.settings.CSettings.{CSettings}
+use Rattle.cadence_host.specs.declared.settings.CSettings.{CSettings}
 
 -- A call that copies a text into a buffer, if it fits, writes that text.
 pub writes : (s size : ℕ) (text out : List ℕ) (IsText : List ℕ → Type 0) → IsText text

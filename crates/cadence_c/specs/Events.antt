@@ -13,18 +13,18 @@ use Rattle.cadence_events.specs.declared.refusal.Unfit.{Unfit}
 use Rattle.cadence_events.specs.declared.service_check.ServiceStatus.{ServiceStatus}
 use Rattle.cadence_events.specs.declared.service_check.ServiceStatus.TheVariants as service
 use Rattle.cadence_settings.specs.Settings.{Settings}
-use Rattle.cadence_c.specs.Calls.{IsUtf8Tag, c_tag}
-use Rattle.cadence_c.specs.ClientState.{KeepsLine, LacksRoomForLine}
+use Rattle.cadence_host.specs.Calls.{IsUtf8Tag, c_tag}
+use Rattle.cadence_host.specs.ClientState.{KeepsLine, LacksRoomForLine}
 use Rattle.cadence_c.specs.Handle.{IsOpenAnd, OnOpen}
 use Rattle.cadence_c.specs.Results.{UnchangedUnlessOk}
-use Rattle.cadence_c.specs.Status.{CADENCE_FULL, CADENCE_INVALID, CADENCE_NOT_UTF8, CADENCE_NO_CLIENT, CADENCE_NO_MEMORY, CADENCE_OK}
-use Rattle.cadence_c.specs.Status.{IsOkOr, code_of_unfit, status}
-use Rattle.cadence_c.specs.Texts.{AreTextsOf}
+use Rattle.cadence_host.specs.Status.{CADENCE_FULL, CADENCE_INVALID, CADENCE_NOT_UTF8, CADENCE_NO_CLIENT, CADENCE_NO_MEMORY, CADENCE_OK}
+use Rattle.cadence_host.specs.Status.{IsOkOr, code_of_unfit, status}
+use Rattle.cadence_host.specs.Texts.{AreTextsOf}
 use Rattle.cadence_c.specs.declared.events.CCheck.{CCheck}
 use Rattle.cadence_c.specs.declared.events.CEvent.{CEvent}
 use Rattle.cadence_c.specs.declared.handle.Handle.{Handle}
-use Rattle.cadence_c.specs.declared.settings.CSettings.{CSettings}
-use Rattle.cadence_c.specs.declared.status.StatusError.{StatusError}
+use Rattle.cadence_host.specs.declared.settings.CSettings.{CSettings}
+use Rattle.cadence_host.specs.declared.status.StatusError.{StatusError}
 
 -- the text, or none if it is empty
 abbrev pub any_text : List ℕ → Option (List ℕ)

@@ -1,12 +1,6 @@
-pub mod Status
-pub mod Calls
-pub mod Texts
-pub mod Tested
 pub mod Environment
-pub mod ClientState
 pub mod Results
 pub mod Slot
-pub mod Run
 pub mod Handle
 pub mod Events
 pub mod Sums

@@ -6,7 +6,7 @@ use Rattle.cadence_aggregating.specs.Origins.{ComesFrom}
 use Rattle.cadence_aggregating.specs.Past.{Summarizes}
 use Rattle.cadence_aggregating.specs.Summed.{AddsQuietly, accepted_in, gone_in, held_in, limits_in, waiting_in}
 use Rattle.cadence_aggregating.specs.declared.summed.SummedLines.{SummedLines}
-use Rattle.cadence_c.specs.ClientState.{ClientState, KeepsLine, LacksRoomForLine}
+use Rattle.cadence_host.specs.ClientState.{ClientState, KeepsLine, LacksRoomForLine}
 
 -- The sums are new: they accepted no line. They hold this many contexts of each kind, or one if the number is 0, and lines
 -- of at most this many bytes. They pack values if and only if `packed` is true.

@@ -2,7 +2,7 @@
 use Rattle.std.specs.Prelude.{Option, List, IsSomeAnd, option_map}
 use Rattle.cadence_aggregating.specs.declared.keys.LineKey.{LineKey}
 use Rattle.cadence_aggregating.specs.declared.summed.SummedLines.{SummedLines}
-use Rattle.cadence_c.specs.ClientState.{ClientState}
+use Rattle.cadence_host.specs.ClientState.{ClientState}
 use Rattle.cadence_c.specs.Handle.{OnOpen}
 use Rattle.cadence_c.specs.declared.handle.Handle.{Handle}
 use Rattle.cadence_c.specs.declared.sums_handle.Sums.{Sums}

@@ -5,11 +5,11 @@ ghost use Rattle.cadence_environment.specs.Switches.{is_yes};
 ghost use Rattle.cadence_environment.specs.declared.variables.Variables.{Variables as TheVariables};
 ghost use Rattle.cadence_c.specs.Environment.{HasTexts, IsNamed, container_text};
 ghost use Rattle.cadence_c.specs.Results.{WritesOut};
-ghost use Rattle.cadence_c.specs.Status.{CADENCE_NO_MEMORY, CADENCE_TOO_SMALL, CADENCE_VARIABLE, IsOkOr};
+ghost use Rattle.cadence_host.specs.Status.{CADENCE_NO_MEMORY, CADENCE_TOO_SMALL, CADENCE_VARIABLE, IsOkOr};
 
 use crate::environment::{CVariables, read_variable, refusal};
-use crate::status::{StatusError, copy_out};
 use cadence_environment::{EnvironmentError, Variable, container_id, read_origin};
+use cadence_host::status::{StatusError, copy_out};
 use std::alloc::{AllocError, Global};
 
 // Returns whether the default container is that of the process.

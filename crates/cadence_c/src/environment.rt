@@ -12,14 +12,14 @@ ghost use Rattle.cadence_errors.specs.declared.input_error.InputError.TheVariant
 ghost use Rattle.cadence_environment.specs.declared.variables.Variables.{Variables as TheVariables};
 ghost use Rattle.cadence_c.specs.Environment.{ArePlacesRead, AreTagsRead, HasTexts, IsNamed, Names, SaysTarget};
 ghost use Rattle.cadence_c.specs.Results.{WritesOut};
-ghost use Rattle.cadence_c.specs.Status.{CADENCE_NO_MEMORY, CADENCE_TOO_SMALL, CADENCE_VARIABLE, IsOkOr};
+ghost use Rattle.cadence_host.specs.Status.{CADENCE_NO_MEMORY, CADENCE_TOO_SMALL, CADENCE_VARIABLE, IsOkOr};
 
-use crate::call::text_of;
-use crate::status::{StatusError, copy_out};
 use crate::variable::number_of;
 use cadence_environment::{
     Destination, Environment, EnvironmentError, Variable, Variables, is_off, read_prefix,
 };
+use cadence_host::call::text_of;
+use cadence_host::status::{StatusError, copy_out};
 use cadence_text::line::{OwnedTag, TagsText, lend_tag};
 use std::alloc::{AllocError, Global};
 

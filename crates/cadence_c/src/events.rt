@@ -5,18 +5,18 @@ ghost use Rattle.std.specs.Str.{IsUtf8};
 ghost use Rattle.cadence_text.specs.Record.{tag_of as record_tag};
 ghost use Rattle.cadence_events.specs.Event.{event_of as record_event};
 ghost use Rattle.cadence_events.specs.ServiceCheck.{check_of as record_check};
-ghost use Rattle.cadence_c.specs.Calls.{IsUtf8Tag, c_tag};
+ghost use Rattle.cadence_host.specs.Calls.{IsUtf8Tag, c_tag};
 ghost use Rattle.cadence_c.specs.Events.{IsCheckOf, IsEventOf, IsInvalidCheck, IsInvalidEvent, IsLineOfCheck, IsLineOfEvent, IsRefusalOfCheck, IsRefusalOfEvent, IsUtf8Check, IsUtf8Event, KeepsEvent, MakesEvent, alert_named, any_text, priority_named, service_status_named};
-ghost use Rattle.cadence_c.specs.Status.{CADENCE_INVALID, CADENCE_NOT_UTF8, CADENCE_NO_MEMORY, IsOkOr, status};
-ghost use Rattle.cadence_c.specs.Texts.{IsUtf8Settings};
-ghost use Rattle.cadence_c.specs.declared.status.StatusError.TheVariants.{NotUtf8};
+ghost use Rattle.cadence_host.specs.Status.{CADENCE_INVALID, CADENCE_NOT_UTF8, CADENCE_NO_MEMORY, IsOkOr, status};
+ghost use Rattle.cadence_host.specs.Texts.{IsUtf8Settings};
+ghost use Rattle.cadence_host.specs.declared.status.StatusError.TheVariants.{NotUtf8};
 
 use crate::cadence_line;
-use crate::call::{CTag, tag_of, text_of};
 use crate::handle::Handle;
-use crate::settings::{CSettings, read_settings};
-use crate::status::StatusError;
 use cadence_events::{AlertType, Event, Priority, ServiceCheck, ServiceStatus};
+use cadence_host::call::{CTag, tag_of, text_of};
+use cadence_host::settings::{CSettings, read_settings};
+use cadence_host::status::StatusError;
 use cadence_text::line::Tag;
 use std::alloc::Global;
 

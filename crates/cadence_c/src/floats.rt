@@ -4,12 +4,12 @@ ghost use Rattle.std.specs.Prelude.{◌≡◌, ◌≢◌, ◌⊎◌, ◌↔◌, 
 ghost use Rattle.cadence_value.specs.Chances.{IsBelow, IsChance};
 ghost use Rattle.cadence_value.specs.Number.{Number};
 ghost use Rattle.cadence_float.specs.Worth.{IsTooLarge, StandsForFloat};
-ghost use Rattle.cadence_c.specs.Calls.{IsMillisOf, IsNoChance, IsNumberOf, PassesDecimal};
-ghost use Rattle.cadence_c.specs.Status.{CADENCE_INVALID, CADENCE_OK, IsOkOr};
+ghost use Rattle.cadence_host.specs.Calls.{IsMillisOf, IsNoChance, IsNumberOf, PassesDecimal};
+ghost use Rattle.cadence_host.specs.Status.{CADENCE_INVALID, CADENCE_OK, IsOkOr};
 
-use crate::call::{CDecimal, decimal_of};
-use crate::status::{OK, StatusError};
 use cadence_float::{decimal_of_float, rounded_decimal_of_float};
+use cadence_host::call::{CDecimal, decimal_of};
+use cadence_host::status::{OK, StatusError};
 use cadence_value::chance::Chance;
 use cadence_value::decimal::Decimal;
 use std::alloc::Global;

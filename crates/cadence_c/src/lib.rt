@@ -1,58 +1,42 @@
-//! The client for C. It formats lines and packs them into packets, and C sends the packets. This module has the calls
-//! that take a handle and make no line. `include/cadence.h` declares each call and says which statuses it returns.
-//! The modules:
-//! - `call`: the arguments of a call of C, and their conversion
-//! - `value`: the values of a call
-//! - `settings`: the settings, as texts that the host keeps
+//! The client for C. It formats lines and packs them into packets, and C sends the packets. `cadence_host` has the client
+//! and makes the lines. This module has the calls that take a handle and make no line. `include/cadence.h` declares each
+//! call and says which statuses it returns. The modules:
 //! - `texts`: the calls that make the texts of settings
 //! - `events`: the calls for events and service checks
 //! - `environment`: what the variables of the environment say
 //! - `container`: the default container, which is that of the process if a variable says so
 //! - `variable`: the variables by their numbers in C
-//! - `line`: the line of a call
 //! - `metrics`: the calls that keep the line of a metric
 //! - `format`: the calls that write a line and need no client
 //! - `floats`: the decimals of floats
-//! - `status`: the statuses that calls return, and the copy of a text into a buffer of C
-//! - `packet`: a finished packet
-//! - `client`: a client, with its held text and its queue of packets
 //! - `sums` and `sums_handle`: the calls that add up before a client keeps lines, and the handle of the sums with its
 //!   keys
 //! - `box_parts` and `handle`: a `Box` taken apart, and the handle that C stores
-//! - `laws`: what holds after many calls
 #![tactic(auto)]
 
 mod box_parts;
-mod call;
-mod client;
 mod container;
 mod environment;
 mod events;
 mod floats;
 mod format;
 mod handle;
-mod laws;
-mod line;
 mod metrics;
-mod packet;
-mod settings;
-mod status;
 mod sums;
 mod sums_handle;
 mod texts;
-mod value;
 mod variable;
 
 ghost use Rattle.std.specs.Prelude.{◌≡◌, ◌≢◌, ◌⊎◌, ◌≤◌, ◌<◌, [], ◌∷◌, None, Some, length, map, take, true};
 ghost use Rattle.cadence_c.specs.Handle.{client_of, IsOpenAnd, OnOpen};
 ghost use Rattle.cadence_c.specs.Results.{UnchangedUnlessOk};
-ghost use Rattle.cadence_c.specs.ClientState.{policy_named, AreCountsOf, DropsHeld, DropsOldest, PacksHeld, HasNoPacket, IsNew, IsOldest, IsOldestLength, KeepsLine, LacksRoomForHeld, LacksRoomForLine};
-ghost use Rattle.cadence_c.specs.Status.{CADENCE_FULL, CADENCE_INVALID, CADENCE_NO_CLIENT, CADENCE_NO_MEMORY, CADENCE_NO_PACKET, CADENCE_OK, CADENCE_TOO_SMALL, IsOkOr};
+ghost use Rattle.cadence_host.specs.ClientState.{policy_named, AreCountsOf, DropsHeld, DropsOldest, PacksHeld, HasNoPacket, IsNew, IsOldest, IsOldestLength, KeepsLine, LacksRoomForHeld, LacksRoomForLine};
+ghost use Rattle.cadence_host.specs.Status.{CADENCE_FULL, CADENCE_INVALID, CADENCE_NO_CLIENT, CADENCE_NO_MEMORY, CADENCE_NO_PACKET, CADENCE_OK, CADENCE_TOO_SMALL, IsOkOr};
 
+use cadence_host::client::{CCounts, Client};
+use cadence_host::status::{NO_CLIENT, OK, StatusError, status_of};
 use cadence_queue::QueuePolicy;
-use client::{CCounts, Client};
 use handle::Handle;
-use status::{NO_CLIENT, OK, StatusError, status_of};
 use std::alloc::Global;
 
 // Returns the policy that has this number in C, if one has it.

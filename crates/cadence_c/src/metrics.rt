@@ -3,16 +3,16 @@ ghost use Rattle.std.specs.Prelude.{◌≡◌, ◌⊎◌, None, Some, map, true}
 ghost use Rattle.cadence_value.specs.Number.{natural, whole};
 ghost use Rattle.cadence_value.specs.Values.{numbers_of};
 ghost use Rattle.cadence_c.specs.Results.{Keeps};
-ghost use Rattle.cadence_c.specs.Calls.{AreFloatsInRange, AreNumbersOf, AreNumbersOfFloats, AreValidDecimals, CADENCE_SET, IsMemberText, IsNoChange, IsNoMember, IsTextOf, IsTextOfNumbers, IsUtf8IfKnown, durations_of, kind_named};
-ghost use Rattle.cadence_c.specs.Texts.{IsUtf8Settings};
+ghost use Rattle.cadence_host.specs.Calls.{AreFloatsInRange, AreNumbersOf, AreNumbersOfFloats, AreValidDecimals, CADENCE_SET, IsMemberText, IsNoChange, IsNoMember, IsTextOf, IsTextOfNumbers, IsUtf8IfKnown, durations_of, kind_named};
+ghost use Rattle.cadence_host.specs.Texts.{IsUtf8Settings};
 ghost use Rattle.cadence_text.specs.declared.line.MetricType.{MetricType};
 
-use crate::call::{CDecimal, CHANGE, COptions, SET};
 use crate::handle::Handle;
-use crate::line::LineValue;
-use crate::settings::CSettings;
-use crate::status::{NO_CLIENT, StatusError, status_of};
-use crate::value::{
+use cadence_host::call::{CDecimal, CHANGE, COptions, SET};
+use cadence_host::line::LineValue;
+use cadence_host::settings::CSettings;
+use cadence_host::status::{NO_CLIENT, StatusError, status_of};
+use cadence_host::value::{
     decimal_value, duration_value, floating_value, member_value, one_number, signed_value,
     unsigned_value,
 };

@@ -6,17 +6,17 @@ ghost use Rattle.std.specs.Prelude.{◌≡◌, ◌≢◌, ◌⊎◌, ◌++◌, [
 ghost use Rattle.std.specs.Str.{IsUtf8};
 ghost use Rattle.cadence_aggregating.specs.Summed.{AddsQuietly, accepted_in, gone_in, held_in, limits_in, waiting_in};
 ghost use Rattle.cadence_c.specs.Handle.{IsOpenAnd, OnOpen, client_of};
-ghost use Rattle.cadence_c.specs.Status.{status, CADENCE_FULL, CADENCE_NOT_UTF8, CADENCE_NO_CLIENT, CADENCE_NO_MEMORY, CADENCE_OK, IsOkOr};
+ghost use Rattle.cadence_host.specs.Status.{status, CADENCE_FULL, CADENCE_NOT_UTF8, CADENCE_NO_CLIENT, CADENCE_NO_MEMORY, CADENCE_OK, IsOkOr};
 ghost use Rattle.cadence_c.specs.Sums.{AddsLine, AddsUp, GivesAll, GivesLines, IsNewSums, HasSummary, LacksRoomForFirst};
 ghost use Rattle.cadence_c.specs.SumsHandle.{OnBothOpen, keys_of, open_sums_of};
 ghost use Rattle.cadence_c.specs.SumsKeys.{line_of_addend};
 
-use crate::call::text_of;
-use crate::client::Client;
 use crate::handle::Handle;
-use crate::status::{NO_CLIENT, OK, StatusError, status_of};
 use crate::sums_handle::{Sums, SumsHandle};
 use cadence_aggregating::{CounterKey, GaugeKey, Limits, SummedLines};
+use cadence_host::call::text_of;
+use cadence_host::client::Client;
+use cadence_host::status::{NO_CLIENT, OK, StatusError, status_of};
 use std::alloc::{AllocError, Global};
 use std::num::NonZeroUsize;
 

@@ -6,13 +6,13 @@ ghost use Rattle.cadence_text.specs.Cleaned.{cleaned_text, text_as};
 ghost use Rattle.cadence_text.specs.FreeTexts.{is_free_text};
 ghost use Rattle.cadence_text.specs.Line.{tags_field};
 ghost use Rattle.cadence_settings.specs.Settings.{client_prefix};
-ghost use Rattle.cadence_c.specs.Calls.{IsUtf8Tag, c_tag_as};
+ghost use Rattle.cadence_host.specs.Calls.{IsUtf8Tag, c_tag_as};
 ghost use Rattle.cadence_c.specs.Results.{WritesText};
-ghost use Rattle.cadence_c.specs.Status.{CADENCE_NOT_UTF8, CADENCE_OK, CADENCE_SEPARATOR, IsOkOr};
-ghost use Rattle.cadence_c.specs.Texts.{allows_prefix, allows_tags};
+ghost use Rattle.cadence_host.specs.Status.{CADENCE_NOT_UTF8, CADENCE_OK, CADENCE_SEPARATOR, IsOkOr};
+ghost use Rattle.cadence_host.specs.Texts.{allows_prefix, allows_tags};
 
-use crate::call::{CTag, are_clear_tags, are_tags, known_tag, text_of};
-use crate::status::{OK, StatusError, copy_out};
+use cadence_host::call::{CTag, are_clear_tags, are_tags, known_tag, text_of};
+use cadence_host::status::{OK, StatusError, copy_out};
 use cadence_settings::{formatted_prefix, key_text, text_is_free};
 use cadence_text::line::{TagsText, cleaned};
 use std::alloc::{AllocError, Global};

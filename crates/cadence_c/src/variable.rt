@@ -1,10 +1,10 @@
 //! The variables of the environment by their numbers in C.
 ghost use Rattle.std.specs.Prelude.{◌≡◌, [], ◌∷◌, None, Some};
 ghost use Rattle.cadence_c.specs.Environment.{variable_named};
-ghost use Rattle.cadence_c.specs.Status.{CADENCE_INVALID, CADENCE_NO_MEMORY, CADENCE_TOO_SMALL, IsOkOr};
+ghost use Rattle.cadence_host.specs.Status.{CADENCE_INVALID, CADENCE_NO_MEMORY, CADENCE_TOO_SMALL, IsOkOr};
 
-use crate::status::{StatusError, copy_out};
 use cadence_environment::Variable;
+use cadence_host::status::{StatusError, copy_out};
 use std::alloc::Global;
 
 /// Returns the number of a variable in C: its place in the struct of the texts.

@@ -3,17 +3,17 @@ ghost use Rattle.std.specs.Prelude.{◌≡◌, ◌≢◌, ◌⊎◌, ◌∷◌, 
 ghost use Rattle.std.specs.Str.{IsUtf8};
 ghost use Rattle.cadence_aggregating.specs.Keys.{SaysNeither};
 ghost use Rattle.cadence_c.specs.Handle.{IsOpenAnd, OnOpen, client_of};
-ghost use Rattle.cadence_c.specs.Status.{CADENCE_FULL, CADENCE_INVALID, CADENCE_NOT_UTF8, CADENCE_NO_CLIENT, CADENCE_NO_MEMORY, CADENCE_OK, IsOkOr, status};
+ghost use Rattle.cadence_host.specs.Status.{CADENCE_FULL, CADENCE_INVALID, CADENCE_NOT_UTF8, CADENCE_NO_CLIENT, CADENCE_NO_MEMORY, CADENCE_OK, IsOkOr, status};
 ghost use Rattle.cadence_c.specs.Sums.{AddsLine, AddsUp, HasSummary, LacksRoomForFirst};
 ghost use Rattle.cadence_c.specs.SumsHandle.{OnBothOpen, keys_of, open_sums_of};
 ghost use Rattle.cadence_c.specs.SumsKeys.{GetsKey, HasKeyMore, line_by_key, line_by_handle, line_of_addend};
 
 use super::{Addend, add_with};
-use crate::call::text_of;
 use crate::handle::Handle;
-use crate::status::{NO_CLIENT, OK, StatusError};
 use crate::sums_handle::{Sums, SumsHandle};
 use cadence_aggregating::LineKey;
+use cadence_host::call::text_of;
+use cadence_host::status::{NO_CLIENT, OK, StatusError};
 use std::alloc::Global;
 
 // Makes the key of a line, and returns its number.

@@ -4,7 +4,7 @@ use Rattle.cadence_text.specs.Draft.{tags_text_with}
 use Rattle.cadence_text.specs.Line.{tags_field}
 use Rattle.cadence_text.proofs.writing.DraftText.{added_tag}
 use Rattle.cadence_text.specs.Owned.{tag_of_owned}
-use Rattle.cadence_c.proofs.Lines.{tags_more}
+use Rattle.cadence_host.proofs.Lines.{tags_more}
 use Rattle.cadence_c.proofs.environment.text_of_owned.Goals as goal
 
 pub loop-tag-preserved : goal.loop-tag-preserved

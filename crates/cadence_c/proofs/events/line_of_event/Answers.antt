@@ -5,9 +5,9 @@ use Rattle.std.specs.declared.alloc.Global.{Global}
 use Rattle.cadence_events.specs.Event.{event_line, event_line_with, event_of, event_with}
 use Rattle.cadence_events.specs.Refusals.{event_refusal}
 use Rattle.cadence_c.specs.Events.{IsInvalidEvent, IsLineOfEvent, IsRefusalOfEvent, IsUtf8Event, MakesEvent}
-use Rattle.cadence_c.specs.Status.{error_of}
-use Rattle.cadence_c.specs.Texts.{IsUtf8Settings}
-use Rattle.cadence_c.specs.declared.status.StatusError.{StatusError}
+use Rattle.cadence_host.specs.Status.{error_of}
+use Rattle.cadence_host.specs.Texts.{IsUtf8Settings}
+use Rattle.cadence_host.specs.declared.status.StatusError.{StatusError}
 use Rattle.cadence_c.proofs.EventLines.{makes_err, makes_ok}
 use Rattle.cadence_c.proofs.events.line_of_event.Goals as goal
 

@@ -1,8 +1,8 @@
 use Rattle.std.proofs.Common.{◌≡◌, ◌∙◌, ◌∷◌, [], ◌++◌, ap, ap₂, map, rules}
 use Rattle.std.proofs.lemmas.List.{map-append, take_all}
 use Rattle.cadence_text.specs.Record.{tag_of}
-use Rattle.cadence_c.specs.Calls.{c_tag}
-use Rattle.cadence_c.proofs.Lines.{tags_more}
+use Rattle.cadence_host.specs.Calls.{c_tag}
+use Rattle.cadence_host.proofs.Lines.{tags_more}
 use Rattle.cadence_c.proofs.events.tags_of.Goals as goal
 
 pub loop-tag-preserved : goal.loop-tag-preserved

@@ -1,6 +1,6 @@
 use Rattle.std.proofs.Common.{◌≡◌, map, take}
 use Rattle.cadence_text.specs.Record.{tag_of}
-use Rattle.cadence_c.specs.Calls.{c_tag}
+use Rattle.cadence_host.specs.Calls.{c_tag}
 use Rattle.cadence_c.proofs.events.tags_of.Given as goal
 
 -- The list has the first tags.

@@ -1,6 +1,6 @@
 use Rattle.std.proofs.Common.{inr}
-use Rattle.cadence_c.specs.Calls.{IsNumberOf}
-use Rattle.cadence_c.proofs.Lists.{pairs_count}
+use Rattle.cadence_host.specs.Calls.{IsNumberOf}
+use Rattle.cadence_host.proofs.Lists.{pairs_count}
 use Rattle.cadence_value.specs.Values.{numbers_of}
 use Rattle.cadence_c.proofs.Results.{formats_weaker, no_change}
 use Rattle.cadence_c.proofs.format.cadence_format_decimal.Goals as goal

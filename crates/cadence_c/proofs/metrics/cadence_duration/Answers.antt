@@ -1,5 +1,5 @@
 use Rattle.std.proofs.Common.{◌≡◌, None, refl, subst, sym}
-use Rattle.cadence_c.specs.Calls.{durations_of}
+use Rattle.cadence_host.specs.Calls.{durations_of}
 use Rattle.cadence_value.specs.Values.{numbers_of}
 use Rattle.cadence_c.proofs.Results.{keeps_weaker}
 use Rattle.cadence_c.proofs.metrics.cadence_duration.Goals as goal

@@ -5,8 +5,8 @@ use Rattle.cadence_text.specs.Draft.{tags_text_with}
 use Rattle.cadence_text.specs.Metric.{Tag}
 use Rattle.cadence_text.specs.Line.{tags_field}
 use Rattle.cadence_text.proofs.writing.DraftText.{added_tag}
-use Rattle.cadence_c.specs.Calls.{c_tag_as}
-use Rattle.cadence_c.proofs.Lines.{tags_more}
+use Rattle.cadence_host.specs.Calls.{c_tag_as}
+use Rattle.cadence_host.proofs.Lines.{tags_more}
 use Rattle.cadence_c.proofs.texts.text_of_tags.Goals as goal
 
 pub loop-tag-preserved : goal.loop-tag-preserved

@@ -1,8 +1,0 @@
-use Rattle.std.proofs.Common.{take}
-use Rattle.std.specs.List.{All}
-use Rattle.cadence_c.specs.Calls.{IsUtf8Tag}
-use Rattle.cadence_c.proofs.call.are_tags.Given as goal
-
--- The texts of the first tags are UTF-8.
-abbrev pub invariant-loop-tag : goal.invariant-loop-tag
-invariant-loop-tag l = All IsUtf8Tag (take l.tag-index l.tags)

@@ -1,0 +1,7 @@
+pub mod Status
+pub mod Calls
+pub mod Texts
+pub mod Tested
+pub mod Tests
+pub mod ClientState
+pub mod Run
