@@ -1,5 +1,5 @@
 /* SPDX-License-Identifier: Apache-2.0 OR MIT */
-/* The type Packer of statsd_proved._core: the calls of cadence.h.
+/* The type Packer of statsd_proved._core: the calls of cadence.h. The type Calls has the calls that make metrics with it.
  *
  * Each method first reads its arguments, which may run other Python code. Then it calls the library while it holds the
  * interpreter's lock, and no Python code runs between these calls. So threads may share a Packer, and no thread sees
@@ -7,23 +7,6 @@
  * the child may make calls as well. */
 #include "core.h"
 #include <string.h>
-
-enum { SPARE = 64 };
-
-typedef struct {
-    PyObject_HEAD
-    cadence_handle handle;
-    sums_of_packer sums;
-    cadence_counts_of counts; /* as they were after the last call */
-    cadence_settings settings; /* of each later call */
-    uint8_t *texts; /* the texts of the settings */
-    PyObject *kept; /* a list that keeps the text of the default container alive */
-    PyObject *parts; /* the function of statsd_proved.decimals */
-    size_t capacity, packets;
-    uint64_t process; /* the number of the process whose lines it has */
-    uint8_t *line; /* the text of the lines that this file puts together itself */
-    size_t line_len, line_room;
-} packer;
 
 PyObject *object_of(const char *module, const char *name) {
     PyObject *from = PyImport_ImportModule(module);
@@ -48,13 +31,17 @@ static PyObject *refused(uint32_t status) {
     return refused_by("statsd_proved.errors", "StatusError", Py_BuildValue("(Is)", status, cadence_status_text(status)));
 }
 
-/* Returns the result of a call that keeps a line: whether it made a packet. If the status isn't CADENCE_OK, it sets an
- * exception. */
-static PyObject *answer(packer *self, uint32_t status) {
+/* Returns whether a call that keeps a line made a packet. If the status isn't CADENCE_OK, it sets an exception and returns -1. */
+static int answer(packer *self, uint32_t status) {
     const uint64_t made = self->counts.made;
-    if (status != CADENCE_OK) return refused(status);
+    if (status != CADENCE_OK) return refused(status), -1;
     cadence_counts(&self->handle, &self->counts);
-    return PyBool_FromLong(self->counts.made != made);
+    return self->counts.made != made;
+}
+
+/* Returns what `answer` returns as an object of Python. */
+static PyObject *answered(int made) {
+    return made < 0 ? NULL : PyBool_FromLong(made);
 }
 
 /* Makes the client, which is empty. */
@@ -93,8 +80,7 @@ static bool begin(packer *self, PyObject *prefix, PyObject *container, const tag
     if (!text_of(prefix, NULL, &text, &len)) return false;
     self->settings.contained = container != Py_None;
     self->kept = Py_BuildValue("[O]", container);
-    self->parts = self->kept != NULL ? object_of("statsd_proved.decimals", "parts") : NULL;
-    if (self->parts == NULL) return false;
+    if (self->kept == NULL) return false;
     if (self->settings.contained && !text_of(container, &self->kept, &self->settings.container, &self->settings.container_len))
         return false;
     uint32_t status = make_texts(self, text, len, tags);
@@ -121,7 +107,7 @@ static int packer_init(packer *self, PyObject *args, PyObject *named) {
     self->sums.used = adds_up;
     self->process = process_number();
     tags_of_call defaults = { .len = 0 };
-    bool made = tags_begin(&defaults, tags);
+    bool made = tags_copy(&defaults, tags);
     if (made && clean) tags_cut(&defaults);
     made = made && begin(self, prefix, container, &defaults);
     tags_end(&defaults);
@@ -135,79 +121,9 @@ static void packer_dealloc(packer *self) {
     PyMem_Free(self->texts);
     PyMem_Free(self->line);
     Py_XDECREF(self->kept);
-    Py_XDECREF(self->parts);
     freefunc release = (freefunc)PyType_GetSlot(type, Py_tp_free);
     release(self);
     Py_DECREF(type);
-}
-
-static bool has_room(packer *self, size_t room) {
-    if (room <= self->line_room) return true;
-    uint8_t *line = PyMem_Realloc(self->line, room + SPARE);
-    if (line == NULL) return false;
-    self->line = line;
-    self->line_room = room + SPARE;
-    return true;
-}
-
-/* Lends the room of the library's heap to a call that frees all memory that it requests, until 0 is written to the place that
- * it returns. It is a function of that heap. */
-size_t *cadence_c_lend(void);
-
-/* Appends the line of a call to the text in self->line. */
-static uint32_t put_line(packer *self, const call *c) {
-    for (;;) {
-        size_t len = 0;
-        uint8_t *out = self->line + self->line_len;
-        const size_t room = self->line_room - self->line_len;
-        size_t *const lent = cadence_c_lend();
-        const uint32_t status = c->text != NULL
-            ? cadence_format_member(&self->settings, c->key, c->key_len, c->text, c->text_len, &c->options, out, room, &len)
-            : c->values.is_double
-            ? cadence_format_floating(&self->settings, c->kind, c->key, c->key_len, &c->values.number, 1,
-                                      &c->options, out, room, &len)
-            : c->values.is_large
-            ? cadence_format_unsigned(&self->settings, c->kind, c->key, c->key_len, &c->values.large, 1,
-                                      &c->options, out, room, &len)
-            : cadence_format_decimal(&self->settings, c->kind, c->key, c->key_len, c->values.at,
-                                     c->values.len, &c->options, out, room, &len);
-        *lent = 0;
-        if (status == CADENCE_OK) self->line_len += len;
-        if (status != CADENCE_TOO_SMALL) return status;
-        if (!has_room(self, self->line_len + len)) return CADENCE_NO_MEMORY;
-    }
-}
-
-/* Puts the line that sets a gauge to 0, before one that sets it to a value below 0. A server reads a value with a sign as a
- * change of the gauge. Both lines are kept as one text, with a newline between them, so they are in one packet, unless they
- * are added up. */
-static uint32_t put_zero(packer *self, call *c) {
-    const int64_t mantissa = c->values.at->mantissa;
-    const bool is_double = c->values.is_double;
-    c->options.rated = c->values.is_double = false;
-    c->values.at->mantissa = 0;
-    uint32_t status = put_line(self, c);
-    c->values.at->mantissa = mantissa;
-    c->values.is_double = is_double;
-    if (status != CADENCE_OK) return status;
-    if (!self->sums.used) {
-        if (!has_room(self, self->line_len + 1)) return CADENCE_NO_MEMORY;
-        self->line[self->line_len++] = '\n';
-        return CADENCE_OK;
-    }
-    status = sums_line(&self->sums, &self->handle, self->line, self->line_len);
-    self->line_len = 0;
-    return status;
-}
-
-/* Keeps the line of a call. */
-static uint32_t keep(packer *self, call *c) {
-    const bool below = c->values.is_double ? c->values.number < 0 : c->values.at->mantissa < 0;
-    uint32_t status = CADENCE_OK;
-    self->line_len = 0;
-    if (c->form == LEVEL && c->values.len == 1 && !c->values.is_large && below) status = put_zero(self, c);
-    if (status == CADENCE_OK) status = put_line(self, c);
-    return status != CADENCE_OK ? status : sums_line(&self->sums, &self->handle, self->line, self->line_len);
 }
 
 static PyObject *packer_renew(packer *self, PyObject *unused) {
@@ -238,37 +154,43 @@ static bool follow_fork(packer *self) {
     return done != NULL;
 }
 
-static PyObject *packer_keep(packer *self, PyObject *const *args, Py_ssize_t count) {
-    if (self->texts == NULL) return refused(CADENCE_NO_CLIENT);
-    if (!follow_fork(self)) return NULL;
+int packer_metric(packer *self, uint32_t kind, long form, PyObject *const *args) {
+    if (self->texts == NULL) return answer(self, CADENCE_NO_CLIENT);
+    if (!follow_fork(self)) return -1;
     call c;
-    PyObject *made = NULL;
+    int made = -1;
     long long number;
-    PyObject *name = count == 8 ? sums_name(&self->sums, args, &number) : NULL;
+    PyObject *name = self->sums.used ? sums_name(kind, form, args, &number) : NULL;
     const uint32_t status = name != NULL ? sums_number(&self->sums, &self->handle, name, number) : CADENCE_INVALID;
     if (status != CADENCE_INVALID) made = answer(self, status);
     else {
-        if (call_begin(&c, self->parts, args, count)) {
+        if (call_begin(&c, kind, form, args)) {
             if (self->settings.cleaned) tags_cut(&c.tags);
             made = answer(self, keep(self, &c));
         }
-        if (made != NULL && name != NULL) sums_key(&self->sums, name, self->line, self->line_len);
+        if (made >= 0 && name != NULL) sums_key(&self->sums, name, self->line, self->line_len);
         call_end(&c);
     }
     Py_XDECREF(name);
     return made;
 }
 
+static PyObject *packer_count(packer *self, PyObject *args) {
+    PyObject *given[ARGUMENTS] = { NULL, NULL, NULL, Py_None, Py_None, Py_None };
+    if (!PyArg_ParseTuple(args, "OO", &given[AT_STAT], &given[AT_VALUE])) return NULL;
+    return answered(packer_metric(self, CADENCE_COUNTER, PLAIN, given));
+}
+
 static PyObject *packer_event(packer *self, PyObject *const *args, Py_ssize_t count) {
     uint32_t status;
     if (!follow_fork(self)) return NULL;
-    return keep_event(&self->handle, &self->settings, args, count, &status) ? answer(self, status) : NULL;
+    return keep_event(&self->handle, &self->settings, args, count, &status) ? answered(answer(self, status)) : NULL;
 }
 
 static PyObject *packer_check(packer *self, PyObject *const *args, Py_ssize_t count) {
     uint32_t status;
     if (!follow_fork(self)) return NULL;
-    return keep_check(&self->handle, &self->settings, args, count, &status) ? answer(self, status) : NULL;
+    return keep_check(&self->handle, &self->settings, args, count, &status) ? answered(answer(self, status)) : NULL;
 }
 
 static PyObject *packer_line(packer *self, PyObject *line) {
@@ -276,12 +198,12 @@ static PyObject *packer_line(packer *self, PyObject *line) {
     size_t len;
     if (!PyUnicode_Check(line)) return PyErr_Format(PyExc_TypeError, "the line %R is not a str", line);
     if (!follow_fork(self) || !text_of(line, NULL, &at, &len)) return NULL;
-    return answer(self, sums_line(&self->sums, &self->handle, at, len));
+    return answered(answer(self, sums_line(&self->sums, &self->handle, at, len)));
 }
 
 static PyObject *packer_flush(packer *self, PyObject *unused) {
     (void)unused;
-    return answer(self, sums_flush(&self->sums, &self->handle));
+    return answered(answer(self, sums_flush(&self->sums, &self->handle)));
 }
 
 /* Removes the oldest packet that waits, and returns it as bytes. Returns None if no packet waits. */
@@ -332,13 +254,12 @@ static PyObject *packer_counts(packer *self, PyObject *unused) {
 }
 
 static PyMethodDef methods[] = {
-    { "keep", (PyCFunction)(void (*)(void))packer_keep, METH_FASTCALL,
-      "keep(kind, form, stat, value, rate, tags, container, timestamp): keeps a metric, and returns whether that made a packet." },
-    { "event", (PyCFunction)(void (*)(void))packer_event, METH_FASTCALL,
-      "event(title, text, timestamp, hostname, key, priority, source, alert, tags, container): keeps an event, as keep does." },
-    { "check", (PyCFunction)(void (*)(void))packer_check, METH_FASTCALL,
-      "check(name, status, timestamp, hostname, message, tags, container): keeps a service check, as keep does." },
     { "line", (PyCFunction)packer_line, METH_O, "Keeps a line as it is, and returns whether that made a packet." },
+    { "count", (PyCFunction)packer_count, METH_VARARGS, "count(stat, value): keeps a counter, as line does." },
+    { "event", (PyCFunction)(void (*)(void))packer_event, METH_FASTCALL,
+      "event(title, text, timestamp, hostname, key, priority, source, alert, tags, container): keeps an event, as line does." },
+    { "check", (PyCFunction)(void (*)(void))packer_check, METH_FASTCALL,
+      "check(name, status, timestamp, hostname, message, tags, container): keeps a service check, as line does." },
     { "flush", (PyCFunction)packer_flush, METH_NOARGS, "Makes packets of all that is held, and returns whether there was any." },
     { "take", (PyCFunction)packer_take, METH_NOARGS, "Removes and returns the oldest packet, or returns None." },
     { "close", (PyCFunction)packer_close, METH_NOARGS, "Closes the Packer, and returns the packets that are left." },
@@ -359,6 +280,17 @@ static PyType_Slot slots[] = {
 
 static PyType_Spec spec = { "statsd_proved._core.Packer", sizeof(packer), 0, Py_TPFLAGS_DEFAULT, slots };
 
+bool is_packer(PyObject *value) {
+    return PyType_GetSlot(Py_TYPE(value), Py_tp_dealloc) == (void *)packer_dealloc;
+}
+
+/* Puts a type into the module. It takes the reference, and returns false if it has set an exception. */
+static bool put(PyObject *module, const char *name, PyObject *type) {
+    const bool done = type != NULL && PyModule_AddObjectRef(module, name, type) == 0;
+    Py_XDECREF(type);
+    return done;
+}
+
 static int fill(PyObject *module) {
     process_begin();
     if (strcmp(cadence_version(), CADENCE_VERSION) != 0) {
@@ -366,10 +298,8 @@ static int fill(PyObject *module) {
                      CADENCE_VERSION, cadence_version());
         return -1;
     }
-    PyObject *type = PyType_FromSpec(&spec);
-    const int put = type != NULL ? PyModule_AddObjectRef(module, "Packer", type) : -1;
-    Py_XDECREF(type);
-    return put < 0 ? put : PyModule_AddStringConstant(module, "VERSION", CADENCE_VERSION);
+    if (!put(module, "Packer", PyType_FromSpec(&spec)) || !put(module, "Calls", type_of_calls())) return -1;
+    return PyModule_AddStringConstant(module, "VERSION", CADENCE_VERSION);
 }
 
 /* From Python 3.12 on, the second slot says that an interpreter may have a lock of its own. Interpreters share no variables

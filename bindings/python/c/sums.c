@@ -35,16 +35,16 @@ static PyObject *plain_tags(PyObject *tags) {
 
 /* Returns the name under which the key of a call is stored, or null if its line has to be made: it raises no counter and
  * sets no gauge to a whole number, or it has a rate, a time or texts that are no str. */
-PyObject *sums_name(sums_of_packer *self, PyObject *const *args, long long *number) {
+PyObject *sums_name(uint32_t kind, long form, PyObject *const *args, long long *number) {
     int over = 0;
-    if (!self->used || !PyLong_CheckExact(args[3]) || !PyUnicode_CheckExact(args[2]) || args[7] != Py_None) return NULL;
-    if (args[6] != Py_None && !PyUnicode_CheckExact(args[6])) return NULL;
-    if (!PyLong_CheckExact(args[4]) || PyLong_AsLongLongAndOverflow(args[4], &over) != 1) return NULL;
-    *number = PyLong_AsLongLongAndOverflow(args[3], &over);
-    const long kind = PyLong_AsLong(args[0]), form = PyLong_AsLong(args[1]);
+    if (!PyLong_CheckExact(args[AT_VALUE]) || !PyUnicode_CheckExact(args[AT_STAT])) return NULL;
+    if (args[AT_RATE] != NULL || args[AT_TIMESTAMP] != Py_None) return NULL;
+    if (args[AT_CONTAINER] != Py_None && !PyUnicode_CheckExact(args[AT_CONTAINER])) return NULL;
+    *number = PyLong_AsLongLongAndOverflow(args[AT_VALUE], &over);
     if (over != 0 || (kind != CADENCE_COUNTER && (kind != CADENCE_GAUGE || form == CHANGE || *number < 0))) return NULL;
-    PyObject *tags = plain_tags(args[5]);
-    PyObject *name = tags != NULL ? PyTuple_Pack(4, args[0], args[2], tags, args[6]) : NULL;
+    PyObject *tags = plain_tags(args[AT_TAGS]), *named = PyLong_FromUnsignedLong(kind);
+    PyObject *name = tags != NULL && named != NULL ? PyTuple_Pack(4, named, args[AT_STAT], tags, args[AT_CONTAINER]) : NULL;
+    Py_XDECREF(named);
     Py_XDECREF(tags);
     if (name == NULL) PyErr_Clear();
     return name;

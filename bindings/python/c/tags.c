@@ -56,8 +56,52 @@ static PyObject *items_of(PyObject *given) {
     return has_keys ? PyMapping_Items(given) : keys != NULL ? PySequence_List(given) : NULL;
 }
 
+/* Reads a str that isn't of a subclass. Returns false, perhaps with an exception, if it is none. */
+static bool plain_text(PyObject *value, const uint8_t **at, size_t *len) {
+    return PyUnicode_CheckExact(value) && text_of(value, NULL, at, len);
+}
+
+/* Reads a tag without a reference to a text of it. Returns false, perhaps with an exception, if it isn't a str or a pair of them. */
+static bool plain_tag(PyObject *item, cadence_tag *to) {
+    *to = (cadence_tag){ .keyed = PyTuple_CheckExact(item) };
+    if (!to->keyed) return plain_text(item, &to->text, &to->text_len);
+    return PyTuple_Size(item) == 2 && plain_text(PyTuple_GetItem(item, 0), &to->key, &to->key_len)
+        && plain_text(PyTuple_GetItem(item, 1), &to->text, &to->text_len);
+}
+
+/* Reads the tags of a dict, a list or a tuple, of which each text is a str. No code of Python runs then, so the caller's object
+ * keeps the texts alive. Returns false, perhaps with an exception, if it isn't such an object, or has more tags than `small`. */
+static bool plain_tags(tags_of_call *tags, PyObject *given) {
+    const Py_ssize_t room = sizeof tags->small / sizeof tags->small[0];
+    if (PyDict_CheckExact(given)) {
+        PyObject *key, *text;
+        if (PyDict_Size(given) > room) return false;
+        for (Py_ssize_t next = 0; PyDict_Next(given, &next, &key, &text); tags->len++) {
+            cadence_tag *const to = &tags->small[tags->len];
+            to->keyed = true;
+            if (!plain_text(key, &to->key, &to->key_len) || !plain_text(text, &to->text, &to->text_len)) return false;
+        }
+        return true;
+    }
+    const bool is_list = PyList_CheckExact(given);
+    if (!is_list && !PyTuple_CheckExact(given)) return false;
+    const Py_ssize_t len = is_list ? PyList_Size(given) : PyTuple_Size(given);
+    for (; len <= room && (Py_ssize_t)tags->len < len; tags->len++) {
+        const Py_ssize_t i = (Py_ssize_t)tags->len;
+        if (!plain_tag(is_list ? PyList_GetItem(given, i) : PyTuple_GetItem(given, i), &tags->small[i])) return false;
+    }
+    return len <= room;
+}
+
 bool tags_begin(tags_of_call *tags, PyObject *given) {
     tags->at = tags->small;
+    if (given == Py_None || plain_tags(tags, given)) return true;
+    return !PyErr_Occurred() && tags_copy(tags, given);
+}
+
+bool tags_copy(tags_of_call *tags, PyObject *given) {
+    tags->at = tags->small;
+    tags->len = 0;
     if (given == Py_None) return true;
     tags->items = items_of(given);
     if (tags->items == NULL) return false;

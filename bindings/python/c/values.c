@@ -24,19 +24,18 @@ static bool decimal_of_whole(PyObject *value, cadence_decimal_number *to) {
     return to->mantissa != -1 || !PyErr_Occurred();
 }
 
-/* Reads the text of a number. */
-static bool decimal_of_text(PyObject *text, PyObject *value, PyObject *parts, cadence_decimal_number *to) {
-    PyObject *made = PyObject_CallFunctionObjArgs(parts, text, NULL);
-    long long mantissa;
-    const bool fits = made != NULL && PyArg_ParseTuple(made, "Lb", &mantissa, &to->places);
-    Py_XDECREF(made);
-    to->mantissa = fits ? mantissa : 0;
-    return fits || (PyErr_ExceptionMatches(PyExc_ArithmeticError) && does_not_fit(value));
+/* Stores the number of a text, if its digits fit 63 bits. */
+static bool decimal_of_digits(const char *text, size_t len, PyObject *value, cadence_decimal_number *to) {
+    decimal_of_python number;
+    if (!decimal_of_text(text, len, &number) || number.digits > (uint64_t)INT64_MAX + number.below) return does_not_fit(value);
+    to->mantissa = (int64_t)(number.below ? 0 - number.digits : number.digits);
+    to->places = number.places;
+    return true;
 }
 
 /* Reads a number of another type: by its __index__ if it has one that works, by its text if that is a number, as a Decimal's is, and
  * otherwise by its __float__. */
-static bool decimal_of_other(PyObject *value, PyObject *parts, bool in_millis, cadence_decimal_number *to) {
+static bool decimal_of_other(PyObject *value, bool in_millis, cadence_decimal_number *to) {
     if (!PyNumber_Check(value)) {
         PyErr_Format(PyExc_TypeError, "%R is not a number", value);
         return false;
@@ -52,7 +51,7 @@ static bool decimal_of_other(PyObject *value, PyObject *parts, bool in_millis, c
     const char *text = whole || made == NULL ? "" : PyUnicode_AsUTF8AndSize(made, &len);
     bool fits = false;
     if (whole) fits = made != NULL && decimal_of_whole(made, to);
-    else if (text != NULL && len != 0 && strspn(text, "0123456789+-.Ee") == (size_t)len) fits = decimal_of_text(made, value, parts, to);
+    else if (text != NULL && len != 0 && strspn(text, "0123456789+-.Ee") == (size_t)len) fits = decimal_of_digits(text, (size_t)len, value, to);
     else if (made != NULL && text != NULL) {
         PyObject *number = PyNumber_Float(value);
         fits = number != NULL && decimal_of_float(number, in_millis, to);
@@ -62,50 +61,61 @@ static bool decimal_of_other(PyObject *value, PyObject *parts, bool in_millis, c
     return fits;
 }
 
-bool decimal_of(PyObject *value, PyObject *parts, bool in_millis, cadence_decimal_number *to) {
+bool decimal_of(PyObject *value, bool in_millis, cadence_decimal_number *to) {
     if (PyLong_Check(value)) return decimal_of_whole(value, to);
     if (PyFloat_Check(value)) return decimal_of_float(value, in_millis, to);
-    return decimal_of_other(value, parts, in_millis, to);
+    return decimal_of_other(value, in_millis, to);
 }
 
-/* Returns a whole number as an int, or null with an exception. */
-static PyObject *whole_of(PyObject *value, PyObject *parts) {
-    if (PyIndex_Check(value)) return PyNumber_Index(value);
-    PyObject *text = PyObject_Str(value), *whole = NULL;
-    PyObject *made = text != NULL ? PyObject_CallFunctionObjArgs(parts, text, NULL) : NULL;
-    int places = 0;
-    if (made != NULL && PyArg_ParseTuple(made, "Oi", &whole, &places) && places != 0) whole = (does_not_fit(value), NULL);
-    Py_XINCREF(whole);
-    Py_XDECREF(made);
-    Py_XDECREF(text);
-    return whole;
-}
-
-/* Reads one value. A whole number may have up to 64 bits. A float past 63 bits is left to the library. */
-static bool one_value(values_of_call *values, PyObject *value, PyObject *parts, bool in_millis) {
-    values->len = 1;
-    if (decimal_of(value, parts, in_millis, values->at)) return true;
-    if (!PyErr_ExceptionMatches(PyExc_ValueError)) return false;
-    if (PyFloat_Check(value)) {
-        values->is_double = isfinite(values->number = PyFloat_AsDouble(value));
-        if (values->is_double) PyErr_Clear();
-        return values->is_double;
+/* Reads a whole number that may have 64 bits. Returns false, perhaps with an exception, if it isn't one. */
+static bool large_of(PyObject *value, uint64_t *to) {
+    const bool is_index = PyIndex_Check(value);
+    PyObject *made = is_index ? PyNumber_Index(value) : PyObject_Str(value);
+    Py_ssize_t len = 0;
+    const char *text = is_index || made == NULL ? NULL : PyUnicode_AsUTF8AndSize(made, &len);
+    decimal_of_python number;
+    bool is_large = false;
+    if (is_index && made != NULL) {
+        *to = PyLong_AsUnsignedLongLong(made);
+        is_large = !PyErr_Occurred();
+    } else if (text != NULL && decimal_of_text(text, (size_t)len, &number) && !number.below && number.places == 0) {
+        *to = number.digits;
+        is_large = true;
     }
+    Py_XDECREF(made);
+    return is_large;
+}
+
+/* Reads a float. The library prints it, but one that is very small is read here, so that it is known whether it is 0. */
+static bool one_float(values_of_call *values, PyObject *value, bool in_millis) {
+    const double number = PyFloat_AsDouble(value), size = fabs(number);
+    if (!isfinite(number)) return does_not_fit(value);
+    if (size != 0 && size < 1e-6) return decimal_of_float(value, in_millis, values->at);
+    values->type = FLOAT;
+    values->number = number;
+    return true;
+}
+
+/* Reads one value. A whole number may have up to 64 bits. */
+static bool one_value(values_of_call *values, PyObject *value, bool in_millis) {
+    const bool is_whole = PyLong_Check(value);
+    values->len = 1;
+    if (!is_whole && PyFloat_Check(value)) return one_float(values, value, in_millis);
+    if (is_whole) values->type = WHOLE;
+    if (is_whole ? decimal_of_whole(value, values->at) : decimal_of_other(value, in_millis, values->at)) return true;
+    if (!PyErr_ExceptionMatches(PyExc_ValueError)) return false;
     PyErr_Clear();
-    PyObject *whole = whole_of(value, parts);
-    if (whole != NULL) values->large = PyLong_AsUnsignedLongLong(whole);
-    Py_XDECREF(whole);
-    values->is_large = !PyErr_Occurred();
-    if (values->is_large) return true;
+    values->type = LARGE;
+    if (large_of(value, &values->large)) return true;
     PyErr_Clear();
-    if (!PyLong_Check(value)) return does_not_fit(value);
+    if (!is_whole) return does_not_fit(value);
     PyErr_Format(PyExc_OverflowError, "%R is below -2**63 or above 2**64 - 1", value);
     return false;
 }
 
 /* Reads the values of a tuple, to which no other code has a reference. There has to be one, because no server reads a
  * metric without a value. */
-static bool each_value(values_of_call *values, PyObject *tuple, PyObject *parts, bool in_millis) {
+static bool each_value(values_of_call *values, PyObject *tuple, bool in_millis) {
     const size_t len = (size_t)PyTuple_Size(tuple);
     if (len == 0) {
         PyErr_SetString(PyExc_ValueError, "the list of values is empty");
@@ -117,7 +127,7 @@ static bool each_value(values_of_call *values, PyObject *tuple, PyObject *parts,
     }
     for (; values->len < len; values->len++) {
         PyObject *value = PyTuple_GetItem(tuple, (Py_ssize_t)values->len);
-        if (!decimal_of(value, parts, in_millis, &values->at[values->len])) return false;
+        if (!decimal_of(value, in_millis, &values->at[values->len])) return false;
     }
     return true;
 }
@@ -132,11 +142,11 @@ static bool is_several(PyObject *value) {
     return false;
 }
 
-bool values_begin(values_of_call *values, PyObject *value, PyObject *parts, bool in_millis) {
-    if (!is_several(value)) return one_value(values, value, parts, in_millis);
+bool values_begin(values_of_call *values, PyObject *value, bool in_millis) {
+    if (PyLong_CheckExact(value) || PyFloat_CheckExact(value) || !is_several(value)) return one_value(values, value, in_millis);
     PyObject *tuple = PySequence_Tuple(value);
     if (tuple == NULL) return false;
-    const bool all = each_value(values, tuple, parts, in_millis);
+    const bool all = each_value(values, tuple, in_millis);
     Py_DECREF(tuple);
     return all;
 }

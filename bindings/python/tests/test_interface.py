@@ -1,17 +1,28 @@
 # SPDX-License-Identifier: Apache-2.0 OR MIT
 """The docstrings and the type hints of the package."""
 import inspect
+import pathlib
 import unittest
 
 import statsd_proved
-from statsd_proved import Pipeline, StatsClient, Timer
+from statsd_proved import Pipeline, StatsClient, Timer, _core
+
+
+FOLDER = pathlib.Path(inspect.getfile(statsd_proved)).parent
+
+
+def stub():
+    """Returns what the stub of the extension module says, as if it were a module."""
+    said = {"__name__": "statsd_proved.stub", "__package__": "statsd_proved"}
+    exec("from __future__ import annotations\n" + (FOLDER / "_core.pyi").read_text(), said)
+    return said
 
 
 def calls():
     """Yields the name of each public call, and the call."""
     for kind in (StatsClient, Pipeline, Timer):
-        for name, call in inspect.getmembers(kind, inspect.isfunction):
-            if name == "__init__" or not name.startswith("_"):
+        for name, call in inspect.getmembers(kind, inspect.isroutine):
+            if not name.startswith("_") or (name == "__init__" and inspect.isfunction(call)):
                 yield f"{kind.__name__}.{name}", call
 
 
@@ -25,19 +36,27 @@ class Interface(unittest.TestCase):
                 self.assertTrue(inspect.getdoc(what), name)
 
     def test_each_parameter_and_result_has_a_type(self):
+        hints = vars(stub()["Calls"])
         seen = 0
         for name, call in calls():
-            signature = inspect.signature(call)
+            signature = inspect.signature(hints[call.__name__] if inspect.ismethoddescriptor(call) else call)
             self.assertIsNot(signature.return_annotation, inspect.Signature.empty, name)
             for parameter in list(signature.parameters.values())[1:]:
                 self.assertIsNot(parameter.annotation, inspect.Parameter.empty, f"{name}: {parameter.name}")
                 seen += 1
         self.assertGreater(seen, 100)
 
+    def test_the_stub_has_the_calls_of_the_module(self):
+        hints = {name: call for name, call in vars(stub()["Calls"]).items() if not name.startswith("_")}
+        self.assertEqual(sorted(hints), sorted(name for name in vars(_core.Calls) if not name.startswith("_")))
+        for name, call in hints.items():
+            said, are = ([(one.name, one.kind, one.default) for one in list(inspect.signature(what).parameters.values())[1:]]
+                         for what in (call, getattr(_core.Calls, name)))
+            self.assertEqual(said, are, name)
+
     def test_type_checkers_read_the_hints(self):
-        folder = inspect.getfile(statsd_proved).rpartition("/")[0]
         for name in ("py.typed", "_core.pyi"):
-            open(f"{folder}/{name}").close()
+            (FOLDER / name).open().close()
 
 
 if __name__ == "__main__":

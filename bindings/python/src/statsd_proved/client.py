@@ -94,13 +94,13 @@ class StatsClient(Metrics):
             raise ValueError("a client is strict or cleans texts, and not both")
         tags = list(tags.items()) if isinstance(tags, Mapping) else tags
         self._settings = (prefix.rstrip(".") + "." if prefix else "", maxudpsize, packets, strict, clean, tags, container)
-        self._packer = Packer(*self._settings, aggregate)
+        super().__init__(Packer(*self._settings, aggregate))
         self._telemetry = None
         if telemetry is not None:
             self._telemetry = Telemetry(telemetry, telemetry_min_flush_interval, strict, clean, tags, container)
         self._adds_up = aggregate
         self._flush_every = flusher.period(flush_every)
-        self._at_once = flush_every == 0
+        self._at_once = bool(flush_every == 0)
         self._on_error = on_error
         self._raises = raises
         self._logs_next = on_error is None and not raises

@@ -5,11 +5,10 @@ from __future__ import annotations
 import abc
 import datetime
 import decimal
-import random
 from collections.abc import Callable, Iterator, Mapping
 from typing import Any, Literal, Protocol, TypeVar, Union
 
-from ._core import Packer
+from ._core import Calls, Packer
 from .timer import Timer
 
 Element = TypeVar("Element", covariant=True)
@@ -33,16 +32,18 @@ str is printed as `str` does, but bytes and objects that have others in them are
 Priority = Literal["low", "normal"]
 AlertType = Literal["error", "warning", "info", "success"]
 
-COUNTER, TIMER, GAUGE, METER, HISTOGRAM, SET, DISTRIBUTION = range(7)
-PLAIN, CHANGE, LEVEL = range(3)  # forms of a gauge: as any metric, a change by a value, a value that may be below 0
-
 
 def _millis(time: Any) -> Any:
     """Returns a timedelta in milliseconds, and each other object as it is."""
     return time.total_seconds() * 1000 if isinstance(time, datetime.timedelta) else time
 
 
-class Metrics(abc.ABC):
+def in_millis(times: Any) -> Any:
+    """Returns a timedelta, or a list or a tuple of them, in milliseconds. The call `timing` makes this call."""
+    return [_millis(each) for each in times] if isinstance(times, (list, tuple)) else _millis(times)
+
+
+class Metrics(Calls, abc.ABC):
     """Calls that make metrics, events and service checks.
 
     Each call of a metric takes a `rate`. If the rate is below 1, only this share of the calls is kept, chosen at random,
@@ -53,60 +54,9 @@ class Metrics(abc.ABC):
 
     OK, WARNING, CRITICAL, UNKNOWN = range(4)  # the states of a service
 
-    _packer: Packer
-
-    def incr(self, stat: str, count: Number = 1, rate: float = 1, *, tags: Tags | None = None,
-             container: str | None = None, timestamp: float | None = None) -> None:
-        """Adds `count` to a counter."""
-        self._keep(COUNTER, PLAIN, stat, count, rate, tags, container, timestamp)
-
-    def decr(self, stat: str, count: Number = 1, rate: float = 1, *, tags: Tags | None = None,
-             container: str | None = None, timestamp: float | None = None) -> None:
-        """Subtracts `count` from a counter."""
-        try:
-            count = -count
-        except Exception as fault:
-            if self._bad(fault):
-                raise
-            return
-        self._keep(COUNTER, PLAIN, stat, count, rate, tags, container, timestamp)
-
-    def gauge(self, stat: str, value: Number, rate: float = 1, delta: bool = False, *, tags: Tags | None = None,
-              container: str | None = None, timestamp: float | None = None) -> None:
-        """Sets a gauge, or changes it by the value if `delta` is set. A gauge that is set to a value below 0 is set to
-        0 first, in the same packet and without the rate, because a server reads a value with a sign as a change."""
-        self._keep(GAUGE, CHANGE if delta else LEVEL, stat, value, rate, tags, container, timestamp)
-
-    def set(self, stat: str, value: Number | str, rate: float = 1, *, tags: Tags | None = None,
-            container: str | None = None, timestamp: float | None = None) -> None:
-        """Adds a value, which may be a text, to a set. A text that is empty, or has a colon, a bar or a newline, is refused,
-        because each of these would end it in the line."""
-        self._keep(SET, PLAIN, stat, value, rate, tags, container, timestamp)
-
-    def timing(self, stat: str, delta: Number | datetime.timedelta | Numbers | Several[datetime.timedelta], rate: float = 1, *,
-               tags: Tags | None = None, container: str | None = None, timestamp: float | None = None) -> None:
-        """Sends a time: a number of milliseconds, or a timedelta. A float is rounded to six places, if the result fits.
-        A list makes one line."""
-        if isinstance(delta, datetime.timedelta):
-            delta = _millis(delta)
-        elif isinstance(delta, (list, tuple)):
-            delta = [_millis(each) for each in delta]
-        self._keep(TIMER, PLAIN, stat, delta, rate, tags, container, timestamp)
-
-    def histogram(self, stat: str, value: Number | Numbers, rate: float = 1, *, tags: Tags | None = None,
-                  container: str | None = None, timestamp: float | None = None) -> None:
-        """Sends a value for a histogram. A list makes one line."""
-        self._keep(HISTOGRAM, PLAIN, stat, value, rate, tags, container, timestamp)
-
-    def distribution(self, stat: str, value: Number | Numbers, rate: float = 1, *, tags: Tags | None = None,
-                     container: str | None = None, timestamp: float | None = None) -> None:
-        """Sends a value for a distribution. A list makes one line."""
-        self._keep(DISTRIBUTION, PLAIN, stat, value, rate, tags, container, timestamp)
-
-    def meter(self, stat: str, value: Number = 1, rate: float = 1, *, tags: Tags | None = None,
-              container: str | None = None, timestamp: float | None = None) -> None:
-        """Sends a number of events for a meter."""
-        self._keep(METER, PLAIN, stat, value, rate, tags, container, timestamp)
+    def __init__(self, packer: Packer) -> None:
+        super().__init__(packer)
+        self._packer = packer
 
     def raw(self, line: str) -> None:
         """Keeps a line as it is, without the prefix and the tags of the client. A strict client doesn't test it either."""
@@ -134,21 +84,6 @@ class Metrics(abc.ABC):
         with `start`, `stop` and `send`."""
         return Timer(self, stat, rate, tags=tags, container=container, timestamp=timestamp)
 
-    def _keep(self, kind: int, form: int, stat: str, value: Any, rate: float, tags: Any, container: Any,
-              timestamp: Any) -> None:
-        try:
-            if rate < 1:
-                if random.random() >= rate:
-                    return
-            else:
-                rate = 1
-            made_packet = self._packer.keep(kind, form, stat, value, rate, tags, container, timestamp)
-        except Exception as fault:
-            if self._bad(fault):
-                raise
-            return
-        self._kept(made_packet)
-
     def _keep_by(self, keep: Callable[..., bool], *arguments: Any) -> None:
         try:
             made_packet = keep(*arguments)
@@ -156,11 +91,22 @@ class Metrics(abc.ABC):
             if self._bad(fault):
                 raise
             return
-        self._kept(made_packet)
+        if made_packet or self._starts or self._at_once:
+            self._kept(made_packet)
+
+    def _failed(self, fault: Exception) -> None:
+        """Is called for each call of a metric that keeps no line."""
+        try:
+            raise fault
+        except Exception:
+            if self._bad(fault):
+                raise
+        finally:
+            del fault  # the error leads to this frame, so this frame must not lead to the error
 
     @abc.abstractmethod
     def _kept(self, made_packet: bool) -> None:
-        """Is called after each line that was kept."""
+        """Is called after each line that made a packet, and if `_starts` or `_at_once` is set after each line."""
 
     @abc.abstractmethod
     def _bad(self, fault: Exception) -> bool:

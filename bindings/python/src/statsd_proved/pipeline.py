@@ -16,8 +16,8 @@ class Pipeline(Metrics):
     Only one thread at a time may use a pipeline."""
 
     def __init__(self, client: StatsClient, packer: Packer) -> None:
+        super().__init__(packer)
         self._client = client
-        self._packer = packer
         self._packets: list[bytes] = []
 
     def __enter__(self) -> Pipeline:

@@ -8,7 +8,6 @@ from typing import Any
 
 from ._core import Packer
 from .errors import StatusError
-from .metrics import COUNTER, PLAIN
 
 _CAPACITY = 65507
 
@@ -46,7 +45,7 @@ class Telemetry:
                 self._told[name] = count
 
     def _line(self, name: str, number: int) -> str:
-        self._packer.keep(COUNTER, PLAIN, name, number, 1, None, None, None)
+        self._packer.count(name, number)
         self._packer.flush()
         packet = self._packer.take()
         return packet.decode().removesuffix("\n") if packet is not None else ""
