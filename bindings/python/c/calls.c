@@ -1,5 +1,5 @@
 /* SPDX-License-Identifier: Apache-2.0 OR MIT */
-/* The type Calls of statsd_proved._core, of which Metrics is a class: the calls that make metrics. Each of them is one function in
+/* The type Calls of statsd_proved._core, from which Metrics inherits the calls that make metrics. Each of them is one function in
  * C, which calls Python only for what is seldom: for a packet, for an error, or to choose whether a call of a sample is made. */
 #include "core.h"
 #include <stddef.h>
@@ -26,10 +26,11 @@ enum { AT_DELTA = ARGUMENTS, ALL }; /* the place of `delta` */
 
 /* Returns the place of an argument that is given by name, or -1. */
 static int place_of(const shape *of, PyObject *word) {
-    static const char *const names[ALL] = { "stat", NULL, "rate", "tags", "container", "timestamp", "delta" };
-    const char *text = PyUnicode_AsUTF8AndSize(word, NULL);
+    const char *const names[ALL] = { "stat", of->value, "rate", "tags", "container", "timestamp", "delta" };
+    Py_ssize_t len = 0;
+    const char *const text = PyUnicode_AsUTF8AndSize(word, &len);
     for (int i = 0; text != NULL && i < (of->has_delta ? ALL : ARGUMENTS); i++)
-        if (strcmp(i == AT_VALUE ? of->value : names[i], text) == 0) return i;
+        if (names[i][0] == text[0] && strlen(names[i]) == (size_t)len && memcmp(names[i], text, (size_t)len) == 0) return i;
     PyErr_Clear();
     return -1;
 }
@@ -48,8 +49,8 @@ static bool lacks(const shape *of, bool stat, bool value) {
     return false;
 }
 
-/* Puts the arguments of a call into their places. Those that are not given are null, but None if that is what they are by default.
- * Returns false if it has set a TypeError. */
+/* Puts the arguments of a call into their places. Those that are not given are null, but None if that is what they are by
+ * default. Returns false if it has set a TypeError. */
 static bool bind(const shape *of, PyObject **to, PyObject *const *args, Py_ssize_t count, PyObject *words) {
     static const int places[] = { AT_STAT, AT_VALUE, AT_RATE, AT_DELTA };
     const Py_ssize_t most = of->has_delta ? 4 : 3, named = words != NULL ? PyTuple_Size(words) : 0;
@@ -67,7 +68,8 @@ static bool bind(const shape *of, PyObject **to, PyObject *const *args, Py_ssize
         if (to[place] != NULL) return unfit(of, "multiple values for", word);
         to[place] = args[count + i];
     }
-    if (to[AT_STAT] == NULL || (to[AT_VALUE] == NULL && !of->has_value)) return lacks(of, to[AT_STAT] == NULL, to[AT_VALUE] == NULL && !of->has_value);
+    const bool lacks_stat = to[AT_STAT] == NULL, lacks_value = to[AT_VALUE] == NULL && !of->has_value;
+    if (lacks_stat || lacks_value) return lacks(of, lacks_stat, lacks_value);
     for (int i = AT_TAGS; i <= AT_TIMESTAMP; i++)
         if (to[i] == NULL) to[i] = Py_None;
     return true;
@@ -182,8 +184,9 @@ CALL(timing) {
     static const shape of = { "timing", "delta", CADENCE_TIMER, PLAIN, false, false };
     PyObject *given[ALL];
     if (!bind(&of, given, args, count, words)) return NULL;
-    if (PyFloat_CheckExact(given[AT_VALUE]) || PyLong_CheckExact(given[AT_VALUE]) || self->in_millis == NULL) return made(self, &of, given);
-    return made_of(self, &of, given, PyObject_CallFunctionObjArgs(self->in_millis, given[AT_VALUE], NULL));
+    PyObject *const delta = given[AT_VALUE];
+    if (PyFloat_CheckExact(delta) || PyLong_CheckExact(delta) || self->in_millis == NULL) return made(self, &of, given);
+    return made_of(self, &of, given, PyObject_CallFunctionObjArgs(self->in_millis, delta, NULL));
 }
 
 static int calls_init(calls *self, PyObject *args, PyObject *named) {
@@ -242,8 +245,8 @@ static PyMemberDef members[] = {
 };
 
 static PyType_Slot slots[] = {
-    { Py_tp_doc, "Calls(packer): makes the lines of metrics and keeps them in a Packer. After a call that made a packet, and after each one\n"
-                 "if `_starts` or `_at_once` is set, it calls `_kept`, and after one that kept no line `_failed`." },
+    { Py_tp_doc, "Calls(packer): makes the lines of metrics and keeps them in a Packer. After a call that made a packet, and\n"
+                 "after each one if `_starts` or `_at_once` is set, it calls `_kept`, and after one that kept no line `_failed`." },
     { Py_tp_init, calls_init },
     { Py_tp_dealloc, calls_dealloc },
     { Py_tp_methods, methods },

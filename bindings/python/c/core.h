@@ -8,8 +8,8 @@
 #include <Python.h>
 #include <cadence.h>
 
-/* The values of a call: one decimal or several; or one whole number, which is the mantissa of the decimal; or one of 64 bits; or one
- * float. */
+/* The values of a call: one decimal or several; or one whole number, which is the mantissa of the decimal; or one of 64 bits;
+ * or one float. */
 typedef struct {
     cadence_decimal_number small[8], *at;
     size_t len;
@@ -61,8 +61,8 @@ typedef struct {
     long form;
 } call;
 
-/* The places of the arguments of a call that makes a metric. A rate that isn't given is null, and each of the last three is None
- * then. */
+/* The places of the arguments of a call that makes a metric. A rate that isn't given is null, and each of the last three is
+ * None then. */
 enum { AT_STAT, AT_VALUE, AT_RATE, AT_TAGS, AT_CONTAINER, AT_TIMESTAMP, ARGUMENTS };
 
 /* Reads the arguments of a call. Returns false if it has set an exception. call_end has to be called in any case. */

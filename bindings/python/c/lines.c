@@ -61,8 +61,8 @@ static uint32_t put_line(packer *self, const call *c) {
 }
 
 /* Puts the line that sets a gauge to 0, before one that sets it to a value below 0. A server reads a value with a sign as a
- * change of the gauge. Neither line has a rate. Both are kept as one text, with a newline between them, so they are in one packet, unless they
- * are added up. */
+ * change of the gauge. Neither line has a rate. Both are kept as one text, with a newline between them, so they are in one
+ * packet, unless they are added up. */
 static uint32_t put_zero(packer *self, call *c) {
     const int64_t mantissa = c->values.at->mantissa;
     const int type = c->values.type;

@@ -58,10 +58,14 @@ static PyObject *items_of(PyObject *given) {
 
 /* Reads a str that isn't of a subclass. Returns false, perhaps with an exception, if it is none. */
 static bool plain_text(PyObject *value, const uint8_t **at, size_t *len) {
-    return PyUnicode_CheckExact(value) && text_of(value, NULL, at, len);
+    Py_ssize_t size = 0;
+    *at = PyUnicode_CheckExact(value) ? (const uint8_t *)PyUnicode_AsUTF8AndSize(value, &size) : NULL;
+    *len = (size_t)size;
+    return *at != NULL;
 }
 
-/* Reads a tag without a reference to a text of it. Returns false, perhaps with an exception, if it isn't a str or a pair of them. */
+/* Reads a tag without a reference to a text of it. Returns false, perhaps with an exception, if it isn't a str or a pair of
+ * them. */
 static bool plain_tag(PyObject *item, cadence_tag *to) {
     *to = (cadence_tag){ .keyed = PyTuple_CheckExact(item) };
     if (!to->keyed) return plain_text(item, &to->text, &to->text_len);
@@ -69,8 +73,9 @@ static bool plain_tag(PyObject *item, cadence_tag *to) {
         && plain_text(PyTuple_GetItem(item, 1), &to->text, &to->text_len);
 }
 
-/* Reads the tags of a dict, a list or a tuple, of which each text is a str. No code of Python runs then, so the caller's object
- * keeps the texts alive. Returns false, perhaps with an exception, if it isn't such an object, or has more tags than `small`. */
+/* Reads the tags of a dict, a list or a tuple, of which each text is a str. No code of Python runs then, so the caller's
+ * object keeps the texts alive. Returns false, perhaps with an exception, if it isn't such an object, or has more tags than
+ * `small`. */
 static bool plain_tags(tags_of_call *tags, PyObject *given) {
     const Py_ssize_t room = sizeof tags->small / sizeof tags->small[0];
     if (PyDict_CheckExact(given)) {
