@@ -1,11 +1,12 @@
 # SPDX-License-Identifier: Apache-2.0 OR MIT
 """The docstrings and the type hints of the package."""
+import functools
 import inspect
 import pathlib
 import unittest
 
 import statsd_proved
-from statsd_proved import Pipeline, StatsClient, Timer, _core
+from statsd_proved import Pipeline, SpyStatsClient, StatsClient, Timer, _core
 
 
 FOLDER = pathlib.Path(inspect.getfile(statsd_proved)).parent
@@ -53,6 +54,27 @@ class Interface(unittest.TestCase):
             said, are = ([(one.name, one.kind, one.default) for one in list(inspect.signature(what).parameters.values())[1:]]
                          for what in (call, getattr(_core.Calls, name)))
             self.assertEqual(said, are, name)
+
+    def test_arguments_that_do_not_fit_are_refused_as_by_a_function_of_python(self):
+        given = [((), {}), (("a",), {}), (("a", 1, 1, False, 1), {}), (("a",), {"stat": "a"}), (("a", 1), {"tagz": 1}),
+                 (("a", 1, 1, 1), {}), ((), {"value": 1}), ((), {"count": 1}), (("a", 1, 1), {"rate": 1}), (("a", 1), {"delta": True}),
+                 (("a",), {"tags\0": 1})]
+        refused = 0
+        with SpyStatsClient(raises=True) as client:
+            for name, hinted in vars(stub()["Calls"]).items():
+                for args, words in given if not name.startswith("_") else ():
+                    told = []
+                    for call in (functools.partial(hinted, client), getattr(client, name)):
+                        try:
+                            call(*args, **words)
+                        except TypeError as fault:
+                            told.append(str(fault).replace("Calls.", "Metrics."))
+                            refused += 1
+                        else:
+                            told.append(None)
+                    self.assertEqual(told[0], told[1], (name, args, words))
+            self.assertEqual(client.counts()["bad"], 0)
+        self.assertGreater(refused, 100)
 
     def test_type_checkers_read_the_hints(self):
         for name in ("py.typed", "_core.pyi"):

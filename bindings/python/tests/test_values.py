@@ -6,11 +6,12 @@ import enum
 import fractions
 import math
 import pathlib
+import random
 import re
 import unittest
 
 from receiver import ClientTest
-from statsd_proved import StatsClient, Status, StatusError
+from statsd_proved import SpyStatsClient, StatsClient, Status, StatusError
 
 HEADER = pathlib.Path(__file__).resolve().parents[3] / "include" / "cadence.h"
 
@@ -90,6 +91,26 @@ class Values(ClientTest):
         for text in ("NaN", "sNaN", "Infinity"):
             self.refuses(ValueError, lambda c: c.incr("x", decimal.Decimal(text)), lambda c: c.gauge("x", decimal.Decimal(text)))
         self.refuses(decimal.InvalidOperation, lambda c: c.decr("x", decimal.Decimal("sNaN")))
+
+    def test_decimals_are_rounded_as_python_rounds_them(self):
+        made, context, seen = random.Random(7), decimal.Context(prec=1000, rounding=decimal.ROUND_HALF_UP), {True: 0, False: 0}
+        with SpyStatsClient(raises=True) as client:
+            for _ in range(3000):
+                digits = "".join(made.choice(made.choice(("0123456789", "09", "9"))) for _ in range(made.choice((1, 3, 18, 20, 33))))
+                point = made.randrange(len(digits) + 1)
+                text = f"{made.choice('+-')}{digits[:point]}.{digits[point:]}e{made.choice((0, 1, 2, 15, -1, -3, -12, -30))}"
+                whole = context.quantize(decimal.Decimal(text), decimal.Decimal("1e-30"))
+                printed = f"{whole:f}".rstrip("0").rstrip(".")
+                mantissa = int(printed.replace(".", ""))
+                fits = -2 ** 63 <= mantissa < 2 ** 63 or ("." not in printed and 0 <= mantissa < 2 ** 64)
+                seen[fits] += 1
+                try:
+                    client.gauge("x", decimal.Decimal(text), delta=True)
+                    line = client.lines[-1]
+                except ValueError:
+                    line = None
+                self.assertEqual(line, f"x:{'' if mantissa < 0 else '+'}{printed if mantissa else 0}|g" if fits else None, text)
+        self.assertGreater(min(seen.values()), 300)
 
     def test_lists_without_a_value(self):
         self.refuses(ValueError, *(lambda c, call=call, value=value: getattr(c, call)("x", value)
