@@ -68,7 +68,8 @@ class Interface(unittest.TestCase):
                         try:
                             call(*args, **words)
                         except TypeError as fault:
-                            told.append(str(fault).replace("Calls.", "Metrics."))
+                            said = str(fault).partition(". Did you mean")[0]  # from Python 3.13 on a function guesses
+                            told.append(said.replace("Calls.", "Metrics."))
                             refused += 1
                         else:
                             told.append(None)
