@@ -6,7 +6,7 @@ use cadence_resolve::{Family, find_address_of};
 use std::io;
 use std::net::{Net, SocketAddr};
 
-// Returns the family of which an address comes first.
+// Returns the family that is preferred: an address of it is taken before an address of the other one.
 fn family_of(only_ipv6: bool) -> Family {
     if only_ipv6 { Family::V6 } else { Family::V4 }
 }

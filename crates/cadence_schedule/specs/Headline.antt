@@ -26,8 +26,9 @@ use Rattle.cadence_settings.specs.Settings.{Settings, clears_texts}
 abbrev pub ReportsWhole : WriterKind → Type 0
 ReportsWhole kind = (kind.reports ≡ true) × (kind.takes_whole ≡ true)
 
--- what a run is given: the metric of each call, whether the settings are strict or clean texts, the writer's kind and
--- its history before the run, the packer's capacity and ending, the queue's capacity and policy, and the steps
+-- what a run is given: the metric of each call, whether the settings keep separators out of texts (because they refuse
+-- or clean them), the writer's kind and its history before the run, the packer's capacity and ending, the queue's
+-- capacity and policy, and the steps
 pub record Given (A : Type 0) : Type 0 where
   pub metric_of : Call A → Option Metric
   pub clears : Bool
@@ -158,7 +159,7 @@ module _ {W A : Type 0} (history : W → PacketHistory) (given : Given A) (outco
     -- packets and the held text can be read as the kept metrics, and as no other clear metrics.
     pub clear_reading : ReportsWhole given.kind → given.format.ending ≡ codes "\n" → All IsClear (kept given.metric_of turns_of)
         → ReadsAs IsClear (kept given.metric_of turns_of) packets_of_run outcome.held
-    -- With settings that are strict or clean texts, the kept metrics are clear, whatever texts the calls have: no text of
+    -- If the settings keep separators out of texts, the kept metrics are clear, whatever texts the calls have: no text of
     -- them has a separator, except colons after the keys of tags.
     pub cleared : given.clears ≡ true → All IsClear (kept given.metric_of turns_of)
     -- With the newline as ending and such settings, the packets and the held text can be read as the kept metrics, and as

@@ -50,9 +50,9 @@ use std::alloc::Allocator;
 /// 5. If the writer refused no packet, no way to pack the same lines that ends a packet at each flush has fewer
 ///    packets.
 ///
-/// If the settings are strict or clean texts, and each line ends in a newline, the packets can be read as the metrics of
-/// the kept lines, and as no other clear metrics, whatever texts the calls have. A metric is clear if no text of it has a separator,
-/// except colons after the keys of tags.
+/// If the settings refuse separators in texts or clean them, and each line ends in a newline, the packets can be read
+/// as the metrics of the kept lines, and as no other clear metrics, whatever texts the calls have. A metric is clear if
+/// no text of it has a separator, except colons after the keys of tags.
 ///
 /// Number 3 holds for every writer, number 4 for one that takes each packet whole or refuses it, and the others for one
 /// that does so and reports its packets to contracts. The Rust crate has no such function.

@@ -47,8 +47,9 @@ impl<R: Wait + Clone + Drop> Watched<R> {
         is_wanted && self.lines.is_empty() && self.errors.is_empty()
     }
 
-    // Makes the call of these words in this way, and returns whether just that came of it. An error that the call
-    // returns is given to the handler here, so an error that is both returned and handled comes twice.
+    // Makes the call of these words in this way, and returns whether just the wanted outcome came of it. If the call
+    // returns an error, this gives the error to the handler. So if the call gave it to the handler too, the handler has
+    // two errors, and the outcome is another one.
     fn is_right(&self, alloc: Global, way: Way, words: &[String], wanted: &[u8]) -> bool {
         let [name, value, key, options @ ..] = words else {
             return false;
