@@ -159,10 +159,10 @@ module _ {W A : Type 0} (history : W → PacketHistory) (given : Given A) (outco
     -- packets and the held text can be read as the kept metrics, and as no other clear metrics.
     pub clear_reading : ReportsWhole given.kind → given.format.ending ≡ codes "\n" → All IsClear (kept given.metric_of turns_of)
         → ReadsAs IsClear (kept given.metric_of turns_of) packets_of_run outcome.held
-    -- If the settings keep separators out of texts, the kept metrics are clear, whatever texts the calls have: no text of
-    -- them has a separator, except colons after the keys of tags.
+    -- If the settings keep separators out of texts, the kept metrics are clear, whatever texts the calls have: no text
+    -- of them has a separator, except colons after the keys of tags.
     pub cleared : given.clears ≡ true → All IsClear (kept given.metric_of turns_of)
-    -- With the newline as ending and such settings, the packets and the held text can be read as the kept metrics, and as
-    -- no other clear metrics, whatever texts the calls have.
+    -- With the newline as ending and such settings, the packets and the held text can be read as the kept metrics, and
+    -- as no other clear metrics, whatever texts the calls have.
     pub cleared_reading : ReportsWhole given.kind → given.format.ending ≡ codes "\n" → given.clears ≡ true
         → ReadsAs IsClear (kept given.metric_of turns_of) packets_of_run outcome.held

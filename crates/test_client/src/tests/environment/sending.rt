@@ -1,10 +1,11 @@
 //! Clients that send to where the environment says, with its tags.
 use crate::tests::steps::assert_receives;
 use cadence::prelude::*;
+use cadence::types::ErrorKind;
 use cadence::{Metric, MetricResult, MetricSink, Runtime, StatsdClient};
 use cadence_agent::{Environment, EnvironmentExt, EnvironmentSink, environment_sink, sink_to};
 use std::alloc::Global;
-use std::net::{Ipv4Addr, SocketAddr, UdpSocket};
+use std::net::{Ipv4Addr, Ipv6Addr, SocketAddr, UdpSocket};
 use std::test::Fail;
 use std::time::Duration;
 use test_tools::given::Given;
@@ -47,6 +48,25 @@ fn a_server_gets_the_tags_over_udp(rt: HostRuntime) -> Result<(), Fail> {
     send_tagged(&client)?;
     assert!(rt; client.sink().stats().packets_sent == 1 && client.sink().dropped_lines() == 0);
     assert_receives(&server, "p.k:1|c|#env:prod,beta,a:b\n")
+}
+
+// An address of IPv4 is refused. One of IPv6 is sent to, if this machine has IPv6.
+#[test]
+fn with_ipv6_alone_no_other_address_is_sent_to(rt: HostRuntime) -> Result<(), Fail> {
+    match client_by(&rt, rt.alloc(), "STATSD_HOST=127.0.0.1;STATSD_IPV6=1") {
+        Err(error) if error.kind() == ErrorKind::InvalidInput => {}
+        Err(error) => return Err(Fail::new(error)),
+        Ok(_) => return Err(Fail::new("an address of IPv4")),
+    }
+    let Ok(server) = UdpSocket::bind(&rt, SocketAddr::from((Ipv6Addr::LOCALHOST, 0))) else {
+        return Ok(());
+    };
+    server.set_read_timeout(Some(Duration::from_secs(60)))?;
+    let port = server.local_addr()?.port();
+    let variables = format!(in rt.alloc(); "STATSD_HOST=::1;STATSD_PORT={port};STATSD_IPV6=1")?;
+    let client = client_by(&rt, rt.alloc(), &variables)?;
+    send_tagged(&client)?;
+    assert_receives(&server, "p.k:1|c|#a:b\n")
 }
 
 #[test]
