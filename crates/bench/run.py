@@ -66,8 +66,10 @@ MODES = [
     Work('read_arena', '1432 60', '', 'a byte of counters of 60 bytes, read into an arena', 20000, 500, 23 * 61),
     Work('read_full_arena', '512 93', '', 'a byte of lines with every field, read into an arena', 20000, 500, 5 * 94),
     Work('read_full_arena', '1432 93', '', 'a byte of lines with every field, read into an arena', 10000, 500, 15 * 94),
+    Work('cut', '512 20', '', 'a byte of counters of 20 bytes, cut as lines of any client', 20000, 500, 24 * 21),
+    Work('cut_full', '512 93', '', 'a byte of lines with every field, cut as lines of any client', 20000, 500, 5 * 94),
 ]
-HERE_ALONE = ('strict_tags', 'keys', 'keys_tags', 'read', 'read_full', 'read_arena', 'read_full_arena')   # the Rust crate doesn't do this
+HERE_ALONE = ('strict_tags', 'keys', 'keys_tags', 'read', 'read_full', 'read_arena', 'read_full_arena', 'cut', 'cut_full')   # the Rust crate doesn't do this
 PACKED = ('packer', 'udp', 'udp_callers')
 QUEUED = ('queue', 'callers', 'service')
 

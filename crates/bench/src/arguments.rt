@@ -32,6 +32,10 @@ pub enum Reading {
     CountersInArena,
     /// Packets of lines with every field, read into an arena that is emptied after each packet.
     FullInArena,
+    /// Packets of plain counters, whose lines are cut as those of any client.
+    CutCounters,
+    /// Packets of lines with every field, which are cut as those of any client.
+    CutFull,
 }
 
 /// Where lines go, and from how many threads.
@@ -71,7 +75,7 @@ pub enum Mode {
 }
 
 // The modes, each with its word.
-const MODES: [(Mode, &str); 22] = [
+const MODES: [(Mode, &str); 24] = [
     (Mode::Client(Calling::Count), "count"),
     (Mode::Client(Calling::CountTags), "count_tags"),
     (Mode::Client(Calling::Options), "options"),
@@ -86,6 +90,8 @@ const MODES: [(Mode, &str); 22] = [
     (Mode::Read(Reading::Full), "read_full"),
     (Mode::Read(Reading::CountersInArena), "read_arena"),
     (Mode::Read(Reading::FullInArena), "read_full_arena"),
+    (Mode::Read(Reading::CutCounters), "cut"),
+    (Mode::Read(Reading::CutFull), "cut_full"),
     (Mode::Emit(Emitting::Udp), "udp"),
     (Mode::Emit(Emitting::Queue), "queue"),
     (Mode::Emit(Emitting::Callers), "callers"),
@@ -130,7 +136,7 @@ pub struct Arguments {
 pub const USAGE: &str = "bench count|count_tags|options|strict_tags|histogram4 N
 bench tags|dtags|values|key|keys|keys_tags N [SIZE]
 bench packer|udp|queue N [CAP LEN]
-bench read|read_full|read_arena|read_full_arena N [CAP LEN]
+bench read|read_full|read_arena|read_full_arena|cut|cut_full N [CAP LEN]
 bench callers|refused|udp_callers N [CAP LEN CALLERS]
 bench service N [CAP CALLERS]";
 
