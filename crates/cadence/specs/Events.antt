@@ -2,11 +2,13 @@
 use Rattle.std.specs.Prelude.{◌≡◌, ⊤, ℕ, Option, None, Some, IfNone, IfSome, List, [], ◌∷◌, ◌++◌, Result, Ok, Err}
 use Rattle.std.specs.Option.{option_map}
 use Rattle.cadence_errors.specs.declared.MetricError.{MetricError}
-use Rattle.cadence_errors.specs.Errors.{IsInvalid, out_of_memory}
+use Rattle.cadence_errors.specs.Errors.{IsDescribed, out_of_memory}
+use Rattle.cadence_errors.specs.declared.ErrorKind.TheVariants.{InvalidInput}
 use Rattle.cadence_events.specs.declared.refusal.Unfit.{Unfit}
 use Rattle.cadence_events.specs.declared.service_check.ServiceStatus.{ServiceStatus}
 use Rattle.cadence_events.specs.Event.{Event}
 use Rattle.cadence_events.specs.Lined.{Common, or_container}
+use Rattle.cadence_events.specs.Refusals.{unfit_text}
 use Rattle.cadence_events.specs.ServiceCheck.{ServiceCheck}
 use Rattle.cadence_settings.specs.Settings.{Settings}
 use Rattle.cadence_text.specs.Line.{tags_field}
@@ -74,11 +76,11 @@ module _ {E C : Type 0} where
     pub client : new.client ≡ old.client
 
 -- A call sent this line, if there is no cause to refuse it: it returned what the sink may return for the line, or memory
--- ran out. If there is a cause, the result is an invalid input.
+-- ran out. If there is a cause, the error says it.
 abbrev pub SendsFit : {U : Type 0} → SinkResults → Option Unfit → List ℕ → Result U MetricError → Type 0
 SendsFit may None line r = SendsLine may (λ _ _. ⊤) line r
 SendsFit may (Some why) line (Ok u) = ⊥
-SendsFit may (Some why) line (Err e) = IsInvalid e
+SendsFit may (Some why) line (Err e) = IsDescribed InvalidInput (unfit_text why) e
 
 -- A call sent what a builder has, or refused it. The line has the default tags of the client and then the builder's own,
 -- and the default container of the client if the builder has none. Only the texts of the builder are tested. If there

@@ -7,8 +7,6 @@ use Rattle.std.proofs.lemmas.List.Elements.{recursion_from_All}
 use Rattle.std.proofs.lemmas.List.Folds.{list_all-map}
 use mir.Syntax.{w64}
 use Rattle.cadence_aggregate.specs.Server.{Sample, amount, level, member, timing, unclear, other}
-use Rattle.cadence_errors.specs.Errors.{IsInvalid}
-use Rattle.cadence_errors.specs.InputErrors.{IsSame}
 use Rattle.cadence_errors.specs.declared.MetricError.{MetricError}
 use Rattle.cadence_errors.specs.declared.input_error.InputError.{InputError}
 use Rattle.cadence_read.proofs.OwnLines.{cut_once, own_cut}
@@ -18,9 +16,9 @@ use Rattle.cadence_read.specs.Values.{IsNumberText}
 use Rattle.cadence_settings.proofs.calls.CallOptions.{fold-chosen}
 use Rattle.cadence_settings.specs.Call.{Choice, MetricCall, choice_as, chosen, chosen_time, contained, is_clear_call, is_clear_choice, last_or, metric_for}
 use Rattle.cadence_settings.specs.Call.{metric_of_call, plain_call, rated, tagged, timed}
-use Rattle.cadence_settings.specs.DraftErrors.{DraftFails}
+use Rattle.cadence_settings.specs.DraftErrors.{DraftFails, IsDraftFault}
 use Rattle.cadence_settings.specs.Laws.{StrictCallsAreClear}
-use Rattle.cadence_settings.specs.Settings.{Settings, allows_text, is_clear_settings}
+use Rattle.cadence_settings.specs.Settings.{HasSeparator, Settings, allows_text, is_clear_settings}
 use Rattle.cadence_settings.specs.declared.settings.strict.Separator.{Separator}
 use Rattle.cadence_text.specs.Cleaned.{text_as}
 use Rattle.cadence_text.specs.FreeTexts.{is_clear_tag, is_free_text}
@@ -61,14 +59,14 @@ none_is_clear true = refl
 none_is_clear false = refl
 
 -- a key is not made if a tag has a separator
-pub tags_fail : (clear free : Bool) (e : MetricError) → clear ≡ false → IsInvalid e → MayFailFor (clear && free) e
+pub tags_fail : (clear free : Bool) (e : MetricError) → clear ≡ false → HasSeparator e → MayFailFor (clear && free) e
 tags_fail clear free e not_clear invalid = inr (invalid, ap (λ b. b && free) not_clear)
 
 -- why the draft of a key was not made
 pub draft_fails : (strict clear free : Bool) (why : InputError Separator) (e : MetricError) → strict ≡ true → DraftFails (not strict || free) why
-    → IsSame why e → MayFailFor (clear && free) e
-draft_fails true clear true why e is fails same = inl (subst (λ w. IsSame w e) fails same)
-draft_fails true clear false why e is fails same = inr (subst (λ w. IsSame w e) fails same, none_is_clear clear)
+    → IsDraftFault why e → MayFailFor (clear && free) e
+draft_fails true clear true why e is fails same = inl (subst (λ w. IsDraftFault w e) fails same)
+draft_fails true clear false why e is fails same = inr (subst (λ w. IsDraftFault w e) fails same, none_is_clear clear)
 draft_fails false clear free why e is fails same = absurd cc
 
 module _ (s : Settings) (kind : MetricType) (key : List ℕ) (tags : List Tag) where

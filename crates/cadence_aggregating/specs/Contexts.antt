@@ -1,9 +1,9 @@
 -- Contexts of calls that make no line.
 use Rattle.std.specs.Prelude.{◌≡◌, ◌⊎◌, ℕ, Bool, false, List, [], ◌∷◌, None, map, pos}
-use Rattle.cadence_errors.specs.Errors.{IsInvalid, out_of_memory}
+use Rattle.cadence_errors.specs.Errors.{out_of_memory}
 use Rattle.cadence_errors.specs.declared.MetricError.{MetricError}
 use Rattle.cadence_settings.specs.Call.{Choice, MetricCall, choice_as, chosen_time, last_or, metric_for, tagged}
-use Rattle.cadence_settings.specs.Settings.{Settings}
+use Rattle.cadence_settings.specs.Settings.{HasSeparator, Settings}
 use Rattle.cadence_text.specs.declared.line.MetricType.{MetricType}
 use Rattle.cadence_text.specs.Line.{line_of}
 use Rattle.cadence_text.specs.Metric.{Tag}
@@ -34,4 +34,4 @@ pub record IsLineOfZero (settings : Settings) (call : MetricCall) (line : List �
 -- The error says why a key was not made: memory ran out, or a text has a separator, and then not all texts are free of
 -- separators (`false`).
 abbrev pub MayFailFor : Bool → MetricError → Type 0
-MayFailFor free e = (e ≡ out_of_memory) ⊎ (IsInvalid e × (free ≡ false))
+MayFailFor free e = (e ≡ out_of_memory) ⊎ (HasSeparator e × (free ≡ false))

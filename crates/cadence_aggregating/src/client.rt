@@ -43,9 +43,8 @@ pub struct AggregatedClient<
 
 impl<H: FlushErrorHandler + Send + Sync + 'static> AggregatingMetricSinkBuilder<H> {
     ghost use Rattle.std.specs.Prelude.{◌≡◌, ◌⊎◌, IfErr, IfOk, IsTrue, OnOk, false};
-    ghost use Rattle.cadence_errors.specs.Errors.{IsInvalid};
     ghost use Rattle.cadence_queuing.specs.Queuing.{IsQueuingRefusal};
-    ghost use Rattle.cadence_settings.specs.Settings.{is_clear_settings, with_strict_texts};
+    ghost use Rattle.cadence_settings.specs.Settings.{HasSeparator, is_clear_settings, with_strict_texts};
     ghost use Rattle.cadence_aggregating.specs.Clients.{settings_of_aggregated};
 
     /// Makes a client that adds its calls up with these settings, over a sink that takes the sums. The settings of the
@@ -68,7 +67,7 @@ impl<H: FlushErrorHandler + Send + Sync + 'static> AggregatingMetricSinkBuilder<
             settings_of_aggregated client ≡ with_strict_texts settings) }
         ensures clear { OnOk result (IsTrue (is_clear_settings settings)) }
         ensures refused { IfErr result (λ e. IsQueuingRefusal e
-            ⊎ (IsInvalid e × (is_clear_settings settings ≡ false))) }
+            ⊎ (HasSeparator e × (is_clear_settings settings ≡ false))) }
     {
         let settings = StrictSettings::new(settings)?;
         let locked = LockedAggregator::new(rt.clone()?, alloc, self.limits, sink, self.handler)?;

@@ -1,7 +1,6 @@
 //! The keys of calls that make no line.
 ghost use Rattle.std.specs.Prelude.{◌≡◌, IfErr, IfNone, IfOk, IfSome, IsFalse, IsTrue, OnErr, OnOk, map, string_bytes};
 ghost use Rattle.std.specs.List.{fold};
-ghost use Rattle.cadence_errors.specs.Errors.{IsInvalid};
 ghost use Rattle.cadence_settings.specs.Call.{chosen, is_clear_call};
 ghost use Rattle.cadence_text.specs.Draft.{draft_of};
 ghost use Rattle.cadence_text.specs.Metric.{Metric};
@@ -29,14 +28,14 @@ pub(crate) struct StrictSettings {
 }
 
 impl StrictSettings {
-    ghost use Rattle.cadence_settings.specs.Settings.{is_clear_settings, with_strict_texts};
+    ghost use Rattle.cadence_settings.specs.Settings.{HasSeparator, is_clear_settings, with_strict_texts};
 
     /// Makes settings strict. The error is of kind `InvalidInput`, and comes if and only if a text of them has a
     /// separator.
     pub(crate) fn new(settings: ClientSettings) -> MetricResult<StrictSettings>
         ensures settings { IfOk result (λ made. made.settings ≡ with_strict_texts settings) }
         ensures clear { OnOk result (IsTrue (is_clear_settings settings)) }
-        ensures refused { IfErr result IsInvalid }
+        ensures refused { IfErr result HasSeparator }
         ensures unclear { OnErr result (IsFalse (is_clear_settings settings)) }
     {
         let mut settings = settings;

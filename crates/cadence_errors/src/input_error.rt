@@ -1,5 +1,5 @@
 //! The error of a call that reads an input.
-ghost use Rattle.std.specs.Prelude.{◌≡◌};
+ghost use Rattle.std.specs.Prelude.{◌≡◌, IfSome, List, None, Option, ℕ};
 ghost use Rattle.cadence_errors.specs.declared.input_error.InputError.TheVariants.{OutOfMemory};
 ghost use Rattle.cadence_errors.specs.InputErrors.{IsSame};
 
@@ -39,13 +39,17 @@ impl<W, T: Drop> From<AllocFailed<T>> for InputError<W> {
 
 /// What is wrong with the input of a call that makes or sends a metric.
 pub trait Reason {
+    /// The text of the call's error, if contracts name it.
+    ghost said: { Self → Option (List ℕ) } = { λ _. None };
+
     /// Returns the text of the call's error.
-    fn message(self) -> &'static str;
+    fn message(self) -> &'static str
+        ensures { IfSome (said self) (λ text. result.now ≡ text) };
 }
 
 /// Makes a `Described` error of the kind `InvalidInput` with the reason's text, or `SinkError::OutOfMemory`.
 impl<W: Reason> From<InputError<W>> for MetricError {
-    ghost from_gives = { IsSame };
+    ghost from_gives = { IsSame W.said };
 
     fn from(error: InputError<W>) -> MetricError {
         match error {

@@ -1,6 +1,6 @@
 -- Which texts of an event or of a service check are refused, and what a call returns if one of them is.
 use Rattle.std.specs.Prelude.{◌≡◌, ℕ, ◌==◌, Bool, true, not, if◌then◌else◌, Option, None, Some, List, [], ◌∷◌, Result, Ok, Err, String}
-use Rattle.std.specs.Prelude.{string_bytes}
+use Rattle.std.specs.Prelude.{codes, string_bytes}
 use Rattle.std.specs.List.{list_all, list_any}
 use Rattle.cadence_errors.specs.declared.input_error.InputError.{InputError}
 use Rattle.cadence_errors.specs.declared.input_error.InputError.TheVariants.{Unusable, OutOfMemory}
@@ -33,6 +33,16 @@ abbrev pub check_refusal : ServiceCheck → Option Unfit
 check_refusal c =
     first_failed ((is_free_text c.name, unfit.Name) ∷ (is_free_if_any c.host, unfit.Host) ∷ (list_all is_clear_tag c.tags, unfit.Tags)
     ∷ (is_free_if_any c.container, unfit.Container) ∷ (has_no_bar c.message, unfit.Message) ∷ [])
+
+-- what an error says if this text is refused
+abbrev pub unfit_text : Unfit → List ℕ
+unfit_text unfit.Name = codes "separator in the name of a service check"
+unfit_text unfit.Host = codes "separator in the host"
+unfit_text unfit.AggregationKey = codes "separator in the aggregation key"
+unfit_text unfit.SourceType = codes "separator in the source type"
+unfit_text unfit.Tags = codes "separator in a tag"
+unfit_text unfit.Container = codes "separator in the container"
+unfit_text unfit.Message = codes "bar in the message of a service check"
 
 -- A call that makes a line returned this line, or memory ran out. If there is a cause to refuse the line, it returned
 -- this cause.

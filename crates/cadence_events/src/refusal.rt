@@ -36,6 +36,11 @@ pub enum Unfit {
 pub type LineError = InputError<Unfit>;
 
 impl Reason for Unfit {
+    ghost use Rattle.std.specs.Prelude.{Some};
+    ghost use Rattle.cadence_events.specs.Refusals.{unfit_text};
+
+    ghost said = { λ unfit. Some (unfit_text unfit) };
+
     fn message(self) -> &'static str {
         match self {
             Unfit::Name => "separator in the name of a service check",

@@ -1,11 +1,12 @@
 -- What one lookup changes in a resolver, and what the lookup of a target gives.
-use Rattle.std.specs.Prelude.{◌≡◌, ◌+◌, ◌%◌, ◌^◌, Bool, true, false, List, [], ◌∷◌, Option, Some, None, Result, Ok, Err, IfOk, IfErr, IsErrAnd, Vec}
+use Rattle.std.specs.Prelude.{◌≡◌, ◌+◌, ◌%◌, ◌^◌, Bool, true, false, List, [], ◌∷◌, Option, Some, None, Result, Ok, Err, IfOk, IfErr, IsErrAnd, Vec, codes}
 use Rattle.std.specs.declared.net.socket_addr.SocketAddr.{SocketAddr}
 use Rattle.cadence_errors.specs.declared.SinkError.{SinkError}
 use Rattle.cadence_errors.specs.declared.SinkError.TheVariants.{NoAddresses, OutOfMemory}
 use Rattle.cadence_errors.specs.declared.MetricError.{MetricError}
 use Rattle.cadence_errors.specs.declared.MetricError.TheVariants.{Sink}
-use Rattle.cadence_errors.specs.Errors.{IsInvalid}
+use Rattle.cadence_errors.specs.Errors.{IsDescribed}
+use Rattle.cadence_errors.specs.declared.ErrorKind.TheVariants.{InvalidInput}
 use Rattle.cadence_resolve.specs.Address.{Resolved}
 use Rattle.cadence_resolve.specs.Refusals.{IsLookupFault, IsSocketRefusal}
 use Rattle.cadence_resolve.specs.declared.resolver.Resolver.{Resolver}
@@ -13,10 +14,13 @@ use Rattle.cadence_resolve.specs.declared.resolver.Resolver.TheVariants.{Static,
 use Rattle.cadence_resolve.specs.declared.target.Target.{Target}
 use Rattle.cadence_resolve.specs.declared.target.Target.TheVariants.{Addr}
 
--- A resolver starts at the first of these addresses, with no later lookup. If there is no address, the error is an
--- invalid input.
+-- The error says that a lookup gave no address.
+abbrev pub HasNoAddress : MetricError → Type 0
+HasNoAddress e = IsDescribed InvalidInput (codes "No socket addresses yielded") e
+
+-- A resolver starts at the first of these addresses, with no later lookup. If there is no address, the error says so.
 abbrev pub IsStartAt : List SocketAddr → Result Resolved MetricError → Type 0
-IsStartAt [] result = IsErrAnd result (λ e. IsInvalid e)
+IsStartAt [] result = IsErrAnd result HasNoAddress
 IsStartAt (address ∷ others) result = result ≡ Ok (record { address = address; successes = 0; failures = 0 })
 
 -- The first lookup leads to a resolver at its first address, or to an error.
@@ -26,7 +30,7 @@ IsStart (Err fault) result = result ≡ Err (Sink fault)
 
 -- A resolver can't start: the first lookup failed with this error, or it gave no address.
 abbrev pub IsStartRefusal : {A : Type 0} → Result (Vec SocketAddr A) SinkError → MetricError → Type 0
-IsStartRefusal (Ok found) e = (found.items ≡ []) × IsInvalid e
+IsStartRefusal (Ok found) e = (found.items ≡ []) × HasNoAddress e
 IsStartRefusal (Err fault) e = e ≡ Sink fault
 
 -- the resolver after one more lookup, whose first address is this

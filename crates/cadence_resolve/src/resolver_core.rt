@@ -1,5 +1,5 @@
 //! The address of a name after each lookup.
-ghost use Rattle.cadence_errors.specs.Errors.{IsInvalid};
+ghost use Rattle.cadence_resolve.specs.Lookups.{HasNoAddress};
 
 use super::Lookup;
 use cadence_errors::{ErrorKind, MetricError, MetricResult, SinkError};
@@ -9,7 +9,7 @@ use std::net::SocketAddr;
 
 // Returns the error that a name has no address.
 pub(super) fn no_address() -> MetricError
-    ensures { IsInvalid result }
+    ensures { HasNoAddress result }
 {
     MetricError::from((ErrorKind::InvalidInput, "No socket addresses yielded"))
 }

@@ -2,7 +2,8 @@
 use Rattle.std.specs.Prelude.{◌≡◌, ℕ, ◌==◌, if◌then◌else◌, Option, None, Some, List, [], ◌∷◌, ◌++◌, codes, map}
 use Rattle.std.specs.Prelude.{Bool, true, false, not, ◌&&◌, ◌||◌}
 use Rattle.std.specs.List.{list_all}
-use Rattle.cadence_errors.specs.Errors.{IsInvalid, out_of_memory}
+use Rattle.cadence_errors.specs.Errors.{IsDescribed, out_of_memory}
+use Rattle.cadence_errors.specs.declared.ErrorKind.TheVariants.{InvalidInput}
 use Rattle.cadence_errors.specs.declared.MetricError.{MetricError}
 use Rattle.cadence_text.specs.Metric.{Tag}
 use Rattle.cadence_text.specs.Cleaned.{cleaned_tag, cleaned_text, container_as, tag_as, text_as}
@@ -77,8 +78,16 @@ allows_text s text = not s.strict || is_free_text text
 abbrev pub allows_tag : Settings → Tag → Bool
 allows_tag s tag = not s.strict || is_clear_tag tag
 
+-- what the error of a call says if a text has a separator
+abbrev pub separator_text : List ℕ
+separator_text = codes "separator in a text"
+
+-- The error says that a text has a separator.
+abbrev pub HasSeparator : MetricError → Type 0
+HasSeparator e = IsDescribed InvalidInput separator_text e
+
 -- The error says why a text was not taken: memory ran out if the text is allowed (`true`), and otherwise the text has a
--- separator, which is an invalid input.
+-- separator.
 abbrev pub FailsFor : Bool → MetricError → Type 0
 FailsFor true e = e ≡ out_of_memory
-FailsFor false e = IsInvalid e
+FailsFor false e = HasSeparator e

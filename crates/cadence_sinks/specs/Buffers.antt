@@ -1,5 +1,9 @@
--- The capacities of buffered sinks, which are private fields, as contracts name them.
-use Rattle.std.specs.Prelude.{ℕ}
+-- The capacities of buffered sinks, which are private fields, as contracts name them; and the error of one that is too
+-- large.
+use Rattle.std.specs.Prelude.{ℕ, codes}
+use Rattle.cadence_errors.specs.Errors.{IsDescribed}
+use Rattle.cadence_errors.specs.declared.ErrorKind.TheVariants.{InvalidInput}
+use Rattle.cadence_errors.specs.declared.MetricError.{MetricError}
 use Rattle.cadence_sinks.specs.declared.datagram.PackedSocket.{PackedSocket}
 use Rattle.cadence_sinks.specs.declared.spy.buffered.BufferedSpyMetricSink.{BufferedSpyMetricSink}
 use Rattle.cadence_sinks.specs.declared.udp.BufferedUdpMetricSink.{BufferedUdpMetricSink}
@@ -20,3 +24,7 @@ unix_buffer s = buffer_of s.socket
 -- the capacity of a spy's buffer, in bytes
 abbrev pub spy_buffer : {R A : Type 0} → BufferedSpyMetricSink R A → ℕ
 spy_buffer s = s.capacity
+
+-- The error says that a capacity is more than a datagram holds.
+abbrev pub IsTooLarge : MetricError → Type 0
+IsTooLarge e = IsDescribed InvalidInput (codes "the capacity is more than a datagram holds, 65507 bytes") e

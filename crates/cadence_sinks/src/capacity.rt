@@ -1,6 +1,6 @@
 //! How large the packets of a datagram socket may be.
 ghost use Rattle.std.specs.Prelude.{◌≤◌, ◌<◌, IfErr, IfOk};
-ghost use Rattle.cadence_errors.specs.Errors.{IsInvalid};
+ghost use Rattle.cadence_sinks.specs.Buffers.{IsTooLarge};
 
 use cadence_errors::{ErrorKind, MetricError, MetricResult};
 
@@ -15,7 +15,7 @@ pub const MAX_PACKET: usize = 65_507;
 /// `Described` of the kind `InvalidInput` if the capacity is larger than `MAX_PACKET`.
 pub fn check_capacity(capacity: usize) -> MetricResult<()>
     ensures fits { IfOk result (λ _. capacity ≤ 65507) }
-    ensures refused { IfErr result (λ e. IsInvalid e × (65507 < capacity)) }
+    ensures refused { IfErr result (λ e. IsTooLarge e × (65507 < capacity)) }
 {
     if capacity > MAX_PACKET {
         let text = "the capacity is more than a datagram holds, 65507 bytes";

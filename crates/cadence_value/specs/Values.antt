@@ -1,5 +1,5 @@
 -- The numbers of a value, and what a conversion to a value returns.
-use Rattle.std.specs.Prelude.{◌≡◌, ℕ, ◌/◌, ◌^◌, nat_lt, if◌then◌else◌, Option, None, Some, List, [], ◌∷◌, map, Result, Ok, Err}
+use Rattle.std.specs.Prelude.{◌≡◌, ℕ, ◌/◌, ◌^◌, nat_lt, if◌then◌else◌, Option, None, Some, List, [], ◌∷◌, map, Result, Ok, Err, codes}
 use Rattle.std.specs.List.{list_all}
 use Rattle.std.specs.Duration.{as_nanos}
 use Rattle.std.specs.declared.time.Duration.{Duration}
@@ -8,7 +8,8 @@ use Rattle.cadence_value.specs.declared.value.durations.TimeUnit.{TimeUnit}
 use Rattle.cadence_value.specs.declared.value.durations.TimeUnit.TheVariants.{Millisecond, Nanosecond}
 use Rattle.cadence_value.specs.declared.value.MetricValue.{MetricValue}
 use Rattle.cadence_value.specs.declared.value.MetricValue.TheVariants.{Signed, PackedSigned, Unsigned, PackedUnsigned, Decimal, PackedDecimal}
-use Rattle.cadence_errors.specs.Errors.{Gives, IsInvalid}
+use Rattle.cadence_errors.specs.Errors.{Gives, IsDescribed}
+use Rattle.cadence_errors.specs.declared.ErrorKind.TheVariants.{InvalidInput}
 use Rattle.cadence_value.specs.Number.{Number, whole, natural}
 
 -- the numbers of a value, whatever their Rust type is
@@ -43,11 +44,14 @@ numbers_in_u64 ns = if list_all (λ n. nat_lt n (2 ^ 64)) ns then Some (map natu
 abbrev pub Converts : {Z : Type 0} → Option (List Number) → Result (MetricValue Z) MetricError → Type 0
 Converts = Gives (λ numbers v. numbers_of v ≡ numbers)
 
--- What a conversion that takes no memory may return, given the numbers that the value has, or `None` for a value that
--- is refused. If it has numbers, the result has exactly these. If it is refused, the result is an error of kind
--- `InvalidInput`.
+-- The error says that a count of a duration passes 64 bits.
+abbrev pub IsOverflow : MetricError → Type 0
+IsOverflow e = IsDescribed InvalidInput (codes "u64 overflow") e
+
+-- What a conversion that takes no memory may return, given the numbers that the value has, or `None` if a count of a
+-- duration passes 64 bits. If it has numbers, the result has exactly these.
 abbrev pub ConvertsInPlace : {Z : Type 0} → Option (List Number) → Result (MetricValue Z) MetricError → Type 0
 ConvertsInPlace (Some numbers) (Ok v) = numbers_of v ≡ numbers
 ConvertsInPlace (Some numbers) (Err e) = ⊥
 ConvertsInPlace None (Ok v) = ⊥
-ConvertsInPlace None (Err e) = IsInvalid e
+ConvertsInPlace None (Err e) = IsOverflow e

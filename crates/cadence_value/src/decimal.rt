@@ -1,6 +1,7 @@
 //! Exact decimal numbers, for values and sampling rates with digits after the dot.
-ghost use Rattle.std.specs.Prelude.{◌≡◌, ◌^◌, ◌≤◌, ◌↔◌, ◌<◌, true, IsOk, IfOk, IfErr};
-ghost use Rattle.cadence_errors.specs.Errors.{IsInvalid};
+ghost use Rattle.std.specs.Prelude.{◌≡◌, ◌^◌, ◌≤◌, ◌↔◌, ◌<◌, true, IsOk, IfOk, IfErr, codes};
+ghost use Rattle.cadence_errors.specs.Errors.{IsDescribed};
+ghost use Rattle.cadence_errors.specs.declared.ErrorKind.TheVariants.{InvalidInput};
 ghost use Rattle.cadence_value.specs.Number.{IsLowestForm, Number, is_lowest, number, IsDecimal};
 
 use cadence_errors::{ErrorKind, MetricError, MetricResult};
@@ -48,7 +49,8 @@ impl Decimal {
     pub fn new(mantissa: i128, places: u8) -> MetricResult<Decimal>
         ensures ok { IsOk result ↔ (places ≤ 30) }
         ensures value { IfOk result (IsLowestForm mantissa places) }
-        ensures refused { IfErr result IsInvalid }
+        ensures refused { IfErr result
+            (IsDescribed InvalidInput (codes "too many decimal places")) }
     {
         if places > MAX_PLACES {
             return Err(MetricError::from((ErrorKind::InvalidInput, "too many decimal places")));

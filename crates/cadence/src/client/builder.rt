@@ -1,8 +1,8 @@
 //! A metric that is being built, and its options. `sending` has the calls that send it.
 ghost use Rattle.std.specs.Option.{option_copied};
 ghost use Rattle.std.specs.Prelude.{◌≡◌, false, true, IfErr, IsErr};
-ghost use Rattle.cadence_errors.specs.InputErrors.{IsSame};
 ghost use Rattle.cadence_settings.specs.Call.{tagged, contained, timed, rated};
+ghost use Rattle.cadence_settings.specs.DraftErrors.{IsDraftFault};
 ghost use Rattle.cadence_text.specs.Metric.{keyed, unkeyed};
 ghost use Rattle.cadence.specs.Sending.{AppliesOption, StandsForMore, choice_for};
 
@@ -56,7 +56,7 @@ impl<'m, 'c, T: Metric + From<String<C::Memory>>, C: MetricBackend> MetricBuilde
     // Stores an error in place of the draft. It is cold, so that a tag that is added passes no code of errors.
     #[cold]
     fn fail(&mut self, error: DraftError)
-        ensures pending { IfErr (pending_of self.new) (IsSame error) }
+        ensures pending { IfErr (pending_of self.new) (IsDraftFault error) }
         ensures failed { IsErr (pending_of self.new) }
         ensures client { backend_of self.new ≡ backend_of self.old }
     {

@@ -58,7 +58,7 @@ pub fn buffered_unix_sink<R: Net + Wait + Clone + Drop, A: Allocator + Clone>(
     ensures fits { IfOk result (λ _. IsPath path.now) }
     ensures packet { IfOk result (λ _. capacity ≤ 65507) }
     ensures refused { capacity ≤ 65507 → IfErr result (IsUnixRefusal path.now) }
-    ensures too_large { 65507 < capacity → IfErr result (λ e. IsInvalid e) }
+    ensures too_large { 65507 < capacity → IfErr result IsInvalid }
 {
     check_path(path)?;
     check_capacity(capacity)?;

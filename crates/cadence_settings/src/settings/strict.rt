@@ -1,5 +1,5 @@
 //! Strict settings: the tests of texts for separators, and the error of a text that has one.
-ghost use Rattle.std.specs.Prelude.{◌≡◌, IfErr, IsFalse, IsTrue, OnOk, OnErr, map, option_copied};
+ghost use Rattle.std.specs.Prelude.{◌≡◌, IfErr, IsFalse, IsTrue, OnOk, OnErr, Some, map, option_copied};
 ghost use Rattle.std.specs.List.{list_all};
 ghost use Rattle.cadence_errors.specs.Errors.{IsInvalid};
 ghost use Rattle.cadence_text.specs.Owned.{tag_of_owned};
@@ -19,6 +19,10 @@ use std::alloc::Allocator;
 pub struct Separator;
 
 impl Reason for Separator {
+    ghost use Rattle.cadence_settings.specs.Settings.{separator_text};
+
+    ghost said = { λ _. Some separator_text };
+
     fn message(self) -> &'static str {
         "separator in a text"
     }
@@ -106,7 +110,7 @@ fn unclear_error<V: Drop>(value: MetricResult<V>) -> MetricError
 impl<A: Allocator + Clone> ClientSettings<A> {
     ghost use Rattle.cadence_value.specs.Values.{Converts};
     ghost use Rattle.cadence_settings.specs.CallData.{numbers_of_data};
-    ghost use Rattle.cadence_settings.specs.Settings.{allows_text, is_clear_settings, with_strict_texts};
+    ghost use Rattle.cadence_settings.specs.Settings.{HasSeparator, allows_text, is_clear_settings, with_strict_texts};
 
     /// Makes the settings strict. From then on each call, default tag and default container with a separator in a text
     /// is refused: a colon, a comma, a bar or a newline. Colons are allowed in the text of a tag with a key, because the
@@ -118,7 +122,7 @@ impl<A: Allocator + Clone> ClientSettings<A> {
     pub fn set_strict(&mut self) -> MetricResult<()>
         ensures ok { OnOk result (self.new ≡ with_strict_texts self.old) }
         ensures clear { OnOk result (IsTrue (is_clear_settings self.old)) }
-        ensures err { IfErr result IsInvalid }
+        ensures err { IfErr result HasSeparator }
         ensures unclear { OnErr result (IsFalse (is_clear_settings self.old)) }
         ensures kept { OnErr result (self.new ≡ self.old) }
     {

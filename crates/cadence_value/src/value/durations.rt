@@ -1,7 +1,6 @@
 //! Converts durations to whole milliseconds or nanoseconds. What is less than one unit is cut off.
 ghost use Rattle.std.specs.Prelude.{◌≡◌, ◌<◌, ◌^◌, ◌↔◌, [], ◌∷◌, map, IfOk, IsTrue, All};
-ghost use Rattle.cadence_errors.specs.Errors.{IsInvalid};
-ghost use Rattle.cadence_value.specs.Values.{Converts, ConvertsInPlace, count_in, numbers_in_u64};
+ghost use Rattle.cadence_value.specs.Values.{Converts, ConvertsInPlace, IsOverflow, count_in, numbers_in_u64};
 
 use crate::value::MetricValue;
 use cadence_errors::{ErrorKind, MetricError, MetricResult};
@@ -28,7 +27,7 @@ impl TimeUnit {
 
 #[cold]
 fn overflow() -> MetricError
-    ensures { IsInvalid result }
+    ensures { IsOverflow result }
 {
     MetricError::from((ErrorKind::InvalidInput, "u64 overflow"))
 }

@@ -1,7 +1,7 @@
 use Rattle.std.proofs.Common.{◌≡◌, ◌∙◌, ap, false, map, rules, string_bytes, subst, sym, true}
 use Rattle.std.specs.List.{fold, list_all}
-use Rattle.cadence_errors.specs.Errors.{IsInvalid}
 use Rattle.cadence_settings.specs.Call.{chosen, metric_for, plain_call}
+use Rattle.cadence_settings.specs.Settings.{HasSeparator}
 use Rattle.cadence_text.specs.Draft.{draft_of}
 use Rattle.cadence_text.specs.FreeTexts.{is_clear_tag, is_free_text}
 use Rattle.cadence_text.specs.Record.{tag_of}
@@ -13,7 +13,7 @@ pub returns-then-not-tags_are_clear-clause-refused : goal.returns-then-not-tags_
 returns-then-not-tags_are_clear-clause-refused c =
     let tags = map tag_of c.args.tags.now in
     let unclear : list_all is_clear_tag tags ≡ false = search rules in
-    let invalid : IsInvalid c.from.result = search rules in
+    let invalid : HasSeparator c.from.result = search rules in
     subst (λ b. MayFailFor b c.from.result) (sym (tagged_clear c.args.self.now.settings c.args.kind c.args.key.now tags))
     (tags_fail (list_all is_clear_tag tags) (is_free_text c.args.key.now) c.from.result unclear invalid)
 

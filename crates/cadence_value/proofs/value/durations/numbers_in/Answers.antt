@@ -8,7 +8,8 @@ pub returns-then-not-all_fit : goal.returns-then-not-all_fit
 returns-then-not-all_fit g c =
     let none : All (λ d. count_in c.args.unit d < 2 ^ 64) c.args.durations.now.items
     → ⊥ = λ all. cc (c.all_fit.ensures.1 (rw c.deref.ensures.value all)) in
-    rw (none_where_one_passes (count_in c.args.unit) c.args.durations.now.items none) c.overflow.ensures
+    let (text, is, says) = c.overflow.ensures in
+    rw (none_where_one_passes (count_in c.args.unit) c.args.durations.now.items none) (text, is)
 
 pub returns-in_err-numbers : goal.returns-in_err-numbers
 returns-in_err-numbers g c =
