@@ -1,5 +1,6 @@
 -- What contracts see of an aggregator of lines.
 use Rattle.std.specs.Prelude.{ℕ, List, length, map}
+use Rattle.cadence_stage.specs.OwnLog.{items_of}
 use Rattle.cadence_errors.specs.declared.SinkError.{SinkError}
 use Rattle.cadence_stage.specs.Call.{Call}
 use Rattle.cadence_stage.specs.Past.{taken_in}
@@ -25,11 +26,11 @@ module _ {S : Type 0} where
 
   -- the lines that the sink took, in order
   abbrev pub lines_taken : RecordedAggregator S → List (List ℕ)
-  lines_taken a = map line_of_note a.printer.notes.items
+  lines_taken a = map line_of_note (items_of a.printer.notes)
 
   -- the errors with which the sink refused lines, in order
   abbrev pub refusals_by : RecordedAggregator S → List SinkError
-  refusals_by a = a.printer.refusals.items
+  refusals_by a = items_of a.printer.refusals
 
   -- what the lines of the next flush say
   abbrev pub samples_held : RecordedAggregator S → List Sample

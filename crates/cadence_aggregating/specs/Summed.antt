@@ -1,5 +1,6 @@
 -- What contracts see of lines that are added up and wait.
 use Rattle.std.specs.Prelude.{ℕ, List, map}
+use Rattle.cadence_stage.specs.OwnLog.{items_of}
 use Rattle.cadence_aggregate.specs.Server.{Sample}
 use Rattle.cadence_aggregating.specs.Notes.{line_of_note}
 use Rattle.cadence_aggregating.specs.Quiet.{IsQuiet}
@@ -14,7 +15,7 @@ accepted_in s = accepted_by s.sums
 
 -- the lines that are gone, because their owner sent and dropped them, in order
 abbrev pub gone_in : SummedLines → List (List ℕ)
-gone_in s = map line_of_note s.waiting.gone.items
+gone_in s = map line_of_note (items_of s.waiting.gone)
 
 -- the lines that wait to be sent, in order
 abbrev pub waiting_in : SummedLines → List (List ℕ)

@@ -1,5 +1,6 @@
 -- What contracts see of sums of lines.
 use Rattle.std.specs.Prelude.{ℕ, List}
+use Rattle.cadence_stage.specs.OwnLog.{items_of}
 use Rattle.cadence_aggregate.specs.Aggregate.{held}
 use Rattle.cadence_aggregate.specs.Server.{Sample}
 use Rattle.cadence_aggregate.specs.declared.aggregator.Aggregator.{Aggregator}
@@ -10,7 +11,7 @@ use Rattle.cadence_aggregating.specs.declared.sums.Sums.{Sums}
 
 -- the lines that were accepted, in order
 abbrev pub accepted_by : Sums → List (List ℕ)
-accepted_by s = lines_of_entries s.accepted.items
+accepted_by s = lines_of_entries (items_of s.accepted)
 
 -- what the lines of the next flush say
 abbrev pub held_by : Sums → List Sample

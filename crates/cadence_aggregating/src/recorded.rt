@@ -7,6 +7,7 @@ ghost use Rattle.std.specs.Option.{ok_or};
 ghost use Rattle.std.specs.Prelude.{◌≡◌, ◌++◌, ◌∷◌, [], IfOk, OnErr, OnOk, length, map};
 ghost use Rattle.cadence_aggregating.specs.Notes.{sample_of_note};
 ghost use Rattle.cadence_aggregating.specs.Sums.{HasSummary};
+ghost use Rattle.cadence_stage.specs.OwnLog.{items_of};
 
 use crate::limits::Limits;
 use crate::printer::Printer;
@@ -25,7 +26,7 @@ const MOST_RESERVED: usize = 65_536;
 pub struct RecordedAggregator<S: Drop> {
     sums: Sums,
     printer: Printer<S>,
-    pub ghost past: { HasSummary sums (map sample_of_note printer.notes.items) },
+    pub ghost past: { HasSummary sums (map sample_of_note (items_of printer.notes)) },
 }
 
 impl<S: MetricSink> RecordedAggregator<S> {

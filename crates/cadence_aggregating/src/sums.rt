@@ -13,7 +13,7 @@ use crate::limits::Limits;
 use crate::said::read_said;
 use cadence_aggregate::{Aggregator, Line, LineSink, out_of_memory};
 use cadence_errors::SinkError;
-use cadence_stage::GhostList;
+use cadence_stage::OwnLog;
 use std::alloc::{AllocError, Global};
 
 /// Adds up lines. A caller gives the sink below to each call, and the call sends to it what can't be held. There is a
@@ -24,7 +24,7 @@ pub struct Sums {
     limits: Limits,
     aggregator: Aggregator,
     context: String,
-    accepted: GhostList<Accepted>,
+    accepted: OwnLog<Accepted>,
     pub ghost limit: { aggregator.most_bytes ≡ limits.most_bytes },
 }
 
@@ -75,7 +75,7 @@ impl Sums {
             limits,
             aggregator,
             context: String::new(alloc),
-            accepted: GhostList::new(),
+            accepted: OwnLog::new(),
         })
     }
 
@@ -111,7 +111,7 @@ impl Sums {
         };
         let is_held = self.limits.holds(&said, line.len());
         add_or_pass(&mut self.aggregator, sink, said, is_held, fault)?;
-        self.accepted = self.accepted.and(&Accepted::of(Line::Other(line)));
+        self.accepted.note(&Accepted::of(Line::Other(line)));
         Some(())
     }
 

@@ -1,12 +1,13 @@
 //! Lines that wait until their owner has sent them.
 ghost use Rattle.std.specs.Prelude.{◌≡◌, ◌++◌, ◌∷◌, [], IfNone, IfOk, IfSome, drop, map, string_bytes, take};
 ghost use Rattle.cadence_aggregating.specs.Notes.{line_of_note};
+ghost use Rattle.cadence_stage.specs.OwnLog.{items_of};
 
 use crate::note::Note;
 use crate::printed::note_line;
 use cadence_aggregate::{Line, LineSink, out_of_memory};
 use cadence_errors::SinkError;
-use cadence_stage::GhostList;
+use cadence_stage::OwnLog;
 use std::alloc::{AllocError, Global};
 use std::collections::VecDeque;
 
@@ -24,7 +25,7 @@ pub struct WaitingLine {
 pub struct WaitingLines {
     alloc: Global,
     lines: VecDeque<WaitingLine>,
-    gone: GhostList<Note>,
+    gone: OwnLog<Note>,
 }
 
 impl WaitingLines {
@@ -34,12 +35,12 @@ impl WaitingLines {
     pub fn new(alloc: Global) -> WaitingLines
         ensures all { all_notes_of result ≡ [] }
         ensures waiting { notes_of result ≡ [] }
-        ensures gone { result.gone.items ≡ [] }
+        ensures gone { items_of result.gone ≡ [] }
     {
         WaitingLines {
             alloc,
             lines: VecDeque::new(alloc),
-            gone: GhostList::new(),
+            gone: OwnLog::new(),
         }
     }
 
@@ -58,11 +59,12 @@ impl WaitingLines {
     /// Drops the first line, so that it is gone. If none waits, it does nothing.
     pub(crate) fn drop_first(&mut self)
         ensures all { all_notes_of self.new ≡ all_notes_of self.old }
-        ensures gone { self.new.gone.items ≡ self.old.gone.items ++ take 1 (notes_of self.old) }
+        ensures gone { items_of self.new.gone
+            ≡ items_of self.old.gone ++ take 1 (notes_of self.old) }
         ensures rest { notes_of self.new ≡ drop 1 (notes_of self.old) }
     {
         if let Some(first) = self.lines.pop_front() {
-            self.gone = self.gone.and(&first.note);
+            self.gone.note(&first.note);
         }
     }
 

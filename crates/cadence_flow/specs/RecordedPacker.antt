@@ -1,5 +1,6 @@
 -- What contracts say of a packer with the log of its calls.
 use Rattle.std.specs.Prelude.{◌≡◌, ℕ, List, [], ◌∷◌, ◌++◌, map, codes}
+use Rattle.cadence_stage.specs.OwnLog.{items_of}
 use Rattle.cadence_stage.specs.Call.{Call, Line, Flush, call_of}
 use Rattle.cadence_flow.specs.Packer.{FlushesHeld, Packer, WritesLine, new_packer}
 use Rattle.cadence_flow.specs.RecordedWriter.{writer_of, offers_of, recorded_history, recorded_kind}
@@ -14,7 +15,7 @@ module _ {W A : Type 0} where
 
   -- the calls of the packer, the oldest first
   abbrev pub past_of : RecordedPacker W A → List Call
-  past_of p = map call_of p.log.items
+  past_of p = map call_of (items_of p.log)
 
   -- The packer is new: it holds nothing, and this writer was offered nothing.
   abbrev pub begins_over : RecordedPacker W A → W → ℕ → Type 0

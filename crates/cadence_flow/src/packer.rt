@@ -2,11 +2,12 @@
 ghost use Rattle.std.specs.Prelude.{map};
 ghost use Rattle.cadence_stage.specs.Call.{call_of};
 ghost use Rattle.cadence_flow.specs.Packed.{IsPacked};
+ghost use Rattle.cadence_stage.specs.OwnLog.{items_of};
 
 use crate::io::{LineBuffer, PacketWriter};
 use crate::recorded_writer::RecordedWriter;
 use cadence_errors::{MetricError, MetricResult, SinkError};
-use cadence_stage::{Entry, GhostList, Stage};
+use cadence_stage::{Entry, OwnLog, Stage};
 use std::alloc::{Allocator, Global};
 
 /// A packer whose ending is the newline, with the log of its calls. The log exists in proofs only. Every
@@ -15,8 +16,8 @@ use std::alloc::{Allocator, Global};
 #[derive(Drop)]
 pub struct RecordedPacker<W, A: Allocator = Global> {
     lines: LineBuffer<RecordedWriter<W>, A>,
-    log: GhostList<Entry>,
-    pub ghost packed: { ∥ IsPacked lines (map call_of log.items) ∥₁ },
+    log: OwnLog<Entry>,
+    pub ghost packed: { ∥ IsPacked lines (map call_of (items_of log)) ∥₁ },
 }
 
 impl<W: PacketWriter, A: Allocator + Clone> RecordedPacker<W, A> {
@@ -35,7 +36,7 @@ impl<W: PacketWriter, A: Allocator + Clone> RecordedPacker<W, A> {
         };
         Ok(RecordedPacker {
             lines,
-            log: GhostList::new(),
+            log: OwnLog::new(),
         })
     }
 }
@@ -53,14 +54,14 @@ impl<W: PacketWriter, A: Allocator> Stage for RecordedPacker<W, A> {
     #[inline(always)]
     fn take_line(&mut self, line: &str, fault: &mut SinkError) -> Option<usize> {
         let taken = self.lines.write(line.as_bytes(), fault);
-        self.log = self.log.and(&Entry::of_line(line, taken, fault));
+        self.log.note(&Entry::of_line(line, taken, fault));
         taken
     }
 
     #[inline(always)]
     fn empty(&mut self, fault: &mut SinkError) -> Option<()> {
         let done = self.lines.flush(fault);
-        self.log = self.log.and(&Entry::of_flush(done, fault));
+        self.log.note(&Entry::of_flush(done, fault));
         done
     }
 }

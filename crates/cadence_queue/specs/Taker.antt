@@ -1,5 +1,6 @@
 -- What contracts say of a taker.
 use Rattle.std.specs.Prelude.{Bool, List, is_some}
+use Rattle.cadence_stage.specs.OwnLog.{items_of}
 use Rattle.cadence_queue.specs.Hand.{texts_by}
 use Rattle.cadence_queue.specs.declared.taking.taker.Taker.{Taker}
 
@@ -10,7 +11,7 @@ module _ {T A M N : Type 0} {n : _} where
 
   -- the texts that its `next` returned, in order
   abbrev pub given_by : Taker T A M N n → List T
-  given_by t = t.given.items
+  given_by t = items_of t.given
 
   -- whether its `next` returned `None`
   abbrev pub has_ended : Taker T A M N n → Bool

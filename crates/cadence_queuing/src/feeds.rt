@@ -9,13 +9,14 @@ ghost use Rattle.cadence_stage.specs.Call.{Flush, call_of};
 ghost use Rattle.cadence_stage.specs.Held.{NothingIsHeld};
 ghost use Rattle.cadence_stage.specs.Kept.{IsStep};
 ghost use Rattle.cadence_stage.specs.Past.{lines_in};
+ghost use Rattle.cadence_stage.specs.OwnLog.{items_of};
 
 use crate::fed_sink::FedSink;
 use crate::handed::Handed;
 use cadence_errors::SinkError;
 use cadence_flow::MetricSink;
 use cadence_flow::stats::SinkStats;
-use cadence_stage::{Entry, GhostList, Logs, Named, Names, Right, Seen, Stage, Unnamed};
+use cadence_stage::{Entry, Logs, Named, Names, OwnLog, Right, Seen, Stage, Unnamed};
 use std::alloc::Allocator;
 use std::snapshot::Snapshot;
 use std::sync::Wait;
@@ -65,9 +66,9 @@ pub trait Feeds<S, A: Allocator>: Logs {
 }
 
 impl<S: MetricSink, A: Allocator> Feeds<S, A> for Unnamed {
-    type Fed = GhostList<Handed<S, A>>;
+    type Fed = OwnLog<Handed<S, A>>;
 
-    ghost handed = { λ fed. map (λ h. string_bytes (handed_line h)) fed.items };
+    ghost handed = { λ fed. map handed_line (items_of fed) };
 
     ghost may_flush = { S.may_flush };
 
@@ -75,16 +76,16 @@ impl<S: MetricSink, A: Allocator> Feeds<S, A> for Unnamed {
 
     fn hand(
         sink: &S,
-        fed: &mut GhostList<Handed<S, A>>,
+        fed: &mut OwnLog<Handed<S, A>>,
         _feed: &mut Right<Entry>,
         line: &String<A>,
         _from: &mut Seen<String<A>>,
     ) -> Result<(), SinkError>
-        ensures handed { map (λ h. string_bytes (handed_line h)) fed.new.items
-            ≡ map (λ h. string_bytes (handed_line h)) fed.old.items ++ string_bytes line.now ∷ [] }
+        ensures handed { map handed_line (items_of fed.new)
+            ≡ map handed_line (items_of fed.old) ++ string_bytes line.now ∷ [] }
     {
         let answer = sink.emit(line.as_str());
-        *fed = fed.and(&Handed {
+        fed.note(&Handed {
             sink: Snapshot::of(sink),
             line: Snapshot::of(line),
             answer: Snapshot::of(&answer),
@@ -109,9 +110,9 @@ impl<S: MetricSink, A: Allocator> Feeds<S, A> for Unnamed {
 }
 
 impl<S: Stage, R: Wait + Drop, A: Allocator, J: Names> Feeds<FedSink<S, R, A, J>, A> for Named<J> {
-    type Fed = GhostList<String<A>>;
+    type Fed = OwnLog<String<A>>;
 
-    ghost handed = { λ fed. map string_bytes fed.items };
+    ghost handed = { λ fed. map string_bytes (items_of fed) };
 
     ghost may_flush = { λ _ answer. IsStep S.step (Flush answer) ⊎ NothingIsHeld };
 
@@ -119,7 +120,7 @@ impl<S: Stage, R: Wait + Drop, A: Allocator, J: Names> Feeds<FedSink<S, R, A, J>
 
     fn hand(
         sink: &FedSink<S, R, A, J>,
-        fed: &mut GhostList<String<A>>,
+        fed: &mut OwnLog<String<A>>,
         feed: &mut Right<Entry>,
         line: &String<A>,
         from: &mut Seen<String<A>>,
@@ -128,15 +129,15 @@ impl<S: Stage, R: Wait + Drop, A: Allocator, J: Names> Feeds<FedSink<S, R, A, J>
             × (from.old.name ≡ names.taken)
             × ∥ IsPrefix (lines_in (map call_of feed.old.items) ++ string_bytes line.now ∷ [])
             (map string_bytes from.old.items) ∥₁) }
-        ensures handed { map string_bytes fed.new.items
-            ≡ map string_bytes fed.old.items ++ string_bytes line.now ∷ [] }
+        ensures handed { map string_bytes (items_of fed.new)
+            ≡ map string_bytes (items_of fed.old) ++ string_bytes line.now ∷ [] }
         ensures fed { ForSome (Some J.names) (λ names. (feed.new.name ≡ names.fed)
             × (lines_in (map call_of feed.new.items)
             ≡ lines_in (map call_of feed.old.items) ++ string_bytes line.now ∷ [])) }
     {
         let mut fault = SinkError::NothingWritten;
         let taken = sink.feed(feed, line.as_str(), from.again(), &mut fault);
-        *fed = fed.and(line);
+        fed.note(line);
         match taken {
             Some(_) => Ok(()),
             None => Err(fault),

@@ -1,5 +1,6 @@
 -- What calls of an aggregator do to the packer behind it.
 use Rattle.std.specs.Prelude.{◌≡◌, ℕ, List, ◌++◌, map, Result}
+use Rattle.cadence_stage.specs.OwnLog.{items_of}
 use Rattle.cadence_aggregate.specs.Server.{Sample}
 use Rattle.cadence_aggregating.specs.Notes.{line_of_note, sample_of_note}
 use Rattle.cadence_errors.specs.declared.SinkError.{SinkError}
@@ -14,11 +15,11 @@ use Rattle.cadence_schedule.specs.declared.packer_sink.PackerSink.{PackerSink}
 
 -- what is said by the lines that a sink took
 abbrev pub sent_by : {P A : Type 0} → PackerSink P A → List Sample
-sent_by sink = map sample_of_note sink.notes.items
+sent_by sink = map sample_of_note (items_of sink.notes)
 
 -- the lines that a sink took
 abbrev pub lines_by : {P A : Type 0} → PackerSink P A → List (List ℕ)
-lines_by sink = map line_of_note sink.notes.items
+lines_by sink = map line_of_note (items_of sink.notes)
 
 module _ {P A : Type 0} (kind : P → WriterKind) (history : P → PacketHistory) where
   -- The packer was asked this, in order, and the sink took the lines of it that the packer kept.

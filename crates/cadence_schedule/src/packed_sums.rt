@@ -1,5 +1,6 @@
 //! Lines that are added up before the packer takes them.
 ghost use Rattle.std.specs.Prelude.{◌≡◌, []};
+ghost use Rattle.cadence_stage.specs.OwnLog.{items_of};
 
 use crate::packer_sink::PackerSink;
 use crate::packing::Packing;
@@ -22,7 +23,7 @@ impl<P: PacketWriter, A: Allocator> PackedSums<P, A> {
     pub(crate) fn new(alloc: Global, lines: Sums, packing: Packing<P, A>) -> PackedSums<P, A>
         ensures lines { result.lines ≡ lines }
         ensures packing { result.sink.packing ≡ packing }
-        ensures notes { result.sink.notes.items ≡ [] }
+        ensures notes { items_of result.sink.notes ≡ [] }
     {
         PackedSums {
             lines,

@@ -1,12 +1,13 @@
 //! The packer of a run, as the sink to which the aggregator sends lines.
 ghost use Rattle.std.specs.Prelude.{◌≡◌, []};
+ghost use Rattle.cadence_stage.specs.OwnLog.{items_of};
 
 use crate::packing::Packing;
 use cadence_aggregate::{Line, LineSink, out_of_memory};
 use cadence_aggregating::{Note, note_line};
 use cadence_errors::SinkError;
 use cadence_flow::io::PacketWriter;
-use cadence_stage::{GhostList, Stage};
+use cadence_stage::{OwnLog, Stage};
 use std::alloc::{Allocator, Global};
 
 // The packer of a run. `notes` has what each line says that the packer kept, and exists in proofs only.
@@ -14,19 +15,19 @@ use std::alloc::{Allocator, Global};
 pub(crate) struct PackerSink<P: PacketWriter, A: Allocator> {
     pub(crate) packing: Packing<P, A>,
     text: String,
-    notes: GhostList<Note>,
+    notes: OwnLog<Note>,
 }
 
 impl<P: PacketWriter, A: Allocator> PackerSink<P, A> {
     // Returns the packer as a sink, which was given no line yet.
     pub(crate) fn new(alloc: Global, packing: Packing<P, A>) -> PackerSink<P, A>
         ensures packing { result.packing ≡ packing }
-        ensures notes { result.notes.items ≡ [] }
+        ensures notes { items_of result.notes ≡ [] }
     {
         PackerSink {
             packing,
             text: String::new(alloc),
-            notes: GhostList::new(),
+            notes: OwnLog::new(),
         }
     }
 
@@ -56,7 +57,7 @@ impl<P: PacketWriter, A: Allocator> LineSink for PackerSink<P, A> {
             return out_of_memory(fault);
         };
         let _count = self.packing.take_line(&self.text, fault)?;
-        self.notes = self.notes.and(&note);
+        self.notes.note(&note);
         Some(())
     }
 

@@ -1,6 +1,7 @@
 -- What became of the lines of a stream.
 use Rattle.std.specs.Prelude.{◌≡◌, ℕ, List, ◌++◌}
 use Rattle.std.specs.List.{concat}
+use Rattle.cadence_stage.specs.OwnLog.{items_of}
 use Rattle.cadence_flow.specs.Frame.{stream}
 use Rattle.cadence_flow.specs.Packer.{Packer}
 use Rattle.cadence_flow.specs.Writer.{PacketHistory, history_of}
@@ -22,7 +23,7 @@ module _ {T E A : Type 0} where
 
   -- the packets that the writer was given, the oldest first, each with whether it was lost
   abbrev pub fates_in : LastingWriter T E A → List Fate
-  fates_in w = fates_of (packets_of w.given) w.are_lost.items
+  fates_in w = fates_of (packets_of w.given) (items_of w.are_lost)
 
   -- the history of the writer: the packets that it was given, also the lost ones
   abbrev pub given_history : LastingWriter T E A → PacketHistory

@@ -2,6 +2,7 @@
 ghost use Rattle.std.specs.Prelude.{◌≡◌, ◌==◌, count_by, length};
 ghost use Rattle.cadence_flow.specs.RecordedWriter.{packets_of};
 ghost use Rattle.cadence_send.specs.Losses.{fates_of, lines_of_packet, losses_of};
+ghost use Rattle.cadence_stage.specs.OwnLog.{items_of};
 
 use crate::board::{LossBoard, Losses};
 use crate::nowhere::{Nowhere, note_packet};
@@ -9,7 +10,7 @@ use crate::outlet::Outlet;
 use cadence_errors::SinkError;
 use cadence_flow::RecordedWriter;
 use cadence_flow::io::{PacketWriter, Refusals};
-use cadence_stage::GhostList;
+use cadence_stage::OwnLog;
 use std::alloc::Allocator;
 use std::io::Write;
 
@@ -69,9 +70,9 @@ pub struct LastingWriter<'a, T, E, A: Allocator> {
     refusals: Refusals,
     board: &'a LossBoard,
     given: RecordedWriter<Nowhere>,
-    are_lost: GhostList<bool>,
-    pub ghost paired: { length are_lost.items ≡ length (packets_of given) },
-    pub ghost counted: { losses ≡ losses_of (fates_of (packets_of given) are_lost.items) },
+    are_lost: OwnLog<bool>,
+    pub ghost paired: { length (items_of are_lost) ≡ length (packets_of given) },
+    pub ghost counted: { losses ≡ losses_of (fates_of (packets_of given) (items_of are_lost)) },
 }
 
 impl<'a, T: PacketWriter, E: Write + Drop, A: Allocator> LastingWriter<'a, T, E, A> {
@@ -94,7 +95,7 @@ impl<'a, T: PacketWriter, E: Write + Drop, A: Allocator> LastingWriter<'a, T, E,
             refusals: Refusals::none(),
             board,
             given: RecordedWriter::new(Nowhere),
-            are_lost: GhostList::new(),
+            are_lost: OwnLog::new(),
         }
     }
 
@@ -140,7 +141,7 @@ impl<T: PacketWriter, E: Write + Drop, A: Allocator> LastingWriter<'_, T, E, A> 
         ensures refusals { self.new.refusals ≡ self.old.refusals }
     {
         note_packet(&mut self.given, packet);
-        self.are_lost = self.are_lost.and(&is_lost);
+        self.are_lost.note(&is_lost);
         self.losses.given = self.losses.given.wrapping_add(1);
         if is_lost {
             self.losses.packets = self.losses.packets.wrapping_add(1);

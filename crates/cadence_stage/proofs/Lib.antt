@@ -1,5 +1,4 @@
--- Start with `Pasts`: what one more call adds to a past. The proofs of `ghost_list`, `ghost_texts` and `ghost_log` are by
--- hand; `Halves` has the steps of the last.
+-- Start with `Pasts`: what one more call adds to a past. The proofs of `ghost_texts` and `ghost_log` are by hand; `Halves`
+-- has the steps of the last.
 mod Halves
 pub mod Pasts
-pub mod OneFieldStruct

@@ -11,7 +11,7 @@
 //! - `one_call`: one call of a sink that is still to be made
 //! - `emit`: the one body of `emit` and of `flush` of the library's own sinks
 //! - `entry`: what the log of a stage keeps of a call
-//! - `ghost_list` and `ghost_texts`: a list and a list of texts that exist in proofs only
+//! - `ghost_texts`: a list of texts that exists in proofs only
 //! - `ghost_log`: such a list that only grows, and the one right to add to it
 //! - `names`: the names of such lists, by which two locks speak of the same ones
 //! - `lock`: how a lock is taken
@@ -20,7 +20,6 @@
 mod answering_sink;
 mod emit;
 mod entry;
-mod ghost_list;
 mod ghost_log;
 mod ghost_texts;
 mod kept;
@@ -34,7 +33,6 @@ pub use answering_sink::AnsweringSink;
 pub use emit::closed::{Closed, Opener};
 pub use emit::{emit_by, flush_by};
 pub use entry::Entry;
-pub use ghost_list::GhostList;
 pub use ghost_log::{Log, OwnLog, Right, Seen, twins};
 pub use ghost_texts::GhostTexts;
 pub use kept::Receipt;

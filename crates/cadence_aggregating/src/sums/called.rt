@@ -40,7 +40,7 @@ impl Sums {
         };
         let is_held = self.limits.holds(&said, context.len());
         add_or_pass(&mut self.aggregator, sink, said, is_held, fault)?;
-        self.accepted = self.accepted.and(&Accepted::of(said));
+        self.accepted.note(&Accepted::of(said));
         Some(())
     }
 }

@@ -1,8 +1,9 @@
 //! The right to take texts out of a queue.
 ghost use Rattle.std.specs.Option.{ForSome};
 ghost use Rattle.std.specs.Prelude.{◌≡◌, [], ◌∷◌, ◌++◌, None};
+ghost use Rattle.cadence_stage.specs.OwnLog.{items_of};
 
-use cadence_stage::{GhostList, Log, Logs, Named, Names, Right, Seen, Unnamed, twins};
+use cadence_stage::{Log, Logs, Named, Names, OwnLog, Right, Seen, Unnamed, twins};
 use std::marker::PhantomData;
 
 /// The right to take texts out of a queue, and the list of those that it took, which exists in proofs only. If the logs
@@ -11,12 +12,12 @@ pub struct Hand<T, N: Logs = Unnamed> {
     right: Right<T>,
     // what the log has had since the last text was taken
     seen: Seen<T>,
-    texts: GhostList<T>,
+    texts: OwnLog<T>,
     of: PhantomData<N>,
     pub ghost named: { ForSome N.logs (λ names. (right.name ≡ names.taken)
-        × (right.items ≡ texts.items)) },
+        × (right.items ≡ items_of texts)) },
     pub ghost told: { ForSome N.logs (λ names. (seen.name ≡ names.taken)
-        × (seen.items ≡ texts.items)) },
+        × (seen.items ≡ items_of texts)) },
 }
 
 impl<T> Hand<T> {
@@ -30,7 +31,7 @@ impl<T> Hand<T> {
         Hand {
             right,
             seen: log.seen(),
-            texts: GhostList::new(),
+            texts: OwnLog::new(),
             of: PhantomData,
         }
     }
@@ -49,7 +50,7 @@ impl<T, N: Logs> Hand<T, N> {
         Hand {
             right,
             seen,
-            texts: GhostList::new(),
+            texts: OwnLog::new(),
             of: PhantomData,
         }
     }
@@ -64,7 +65,7 @@ impl<T, N: Logs> Hand<T, N> {
     {
         N::note(taken, own, &mut self.right, text);
         self.seen = taken.seen();
-        self.texts = self.texts.and(text);
+        self.texts.note(text);
     }
 
     /// Returns what the log had when the last text was taken. If the log has a name, that is what this right took.

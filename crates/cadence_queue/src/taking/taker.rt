@@ -2,13 +2,14 @@
 ghost use Rattle.std.specs.Option.{ForSome};
 ghost use Rattle.std.specs.Prelude.{◌≡◌, ◌<◌, [], ◌++◌, is_some, true};
 ghost use Rattle.cadence_queue.specs.Hand.{texts_by};
+ghost use Rattle.cadence_stage.specs.OwnLog.{items_of};
 
 use super::end::{SeenEnd, TakerEnd};
 use super::hand::Hand;
 use crate::TextRing;
 use crate::shared_queue::SharedQueue;
 use crate::under_lock::{QueueStep, UnderLock};
-use cadence_stage::{GhostList, Logs, Right, Seen, Unnamed};
+use cadence_stage::{Logs, OwnLog, Right, Seen, Unnamed};
 use std::alloc::{AllocError, Allocator, Global};
 use std::snapshot::Snapshot;
 use std::sync::Wait;
@@ -68,7 +69,7 @@ impl<T, A: Allocator, M: Drop, N: Logs> SharedQueue<T, A, M, N> {
             texts,
             done,
             hand,
-            given: GhostList::new(),
+            given: OwnLog::new(),
             end: None,
         }
     }
@@ -141,10 +142,10 @@ pub struct Taker<'a, T, A: Allocator = Global, M = T, N: Logs = Unnamed> {
     texts: TextRing<T, A>,
     done: TextRing<M, A>,
     hand: Hand<T, N>,
-    given: GhostList<T>,
+    given: OwnLog<T>,
     // what shows the end of the queue, once it was seen
     end: Option<SeenEnd<T, A, N>>,
-    pub ghost whole: { texts_by hand ≡ given.items ++ texts.items },
+    pub ghost whole: { texts_by hand ≡ items_of given ++ texts.items },
     pub ghost empty: { is_some end ≡ true → texts.items ≡ [] },
     pub ghost room: { 0 < texts.capacity },
 }
@@ -171,7 +172,7 @@ impl<T, A: Allocator, M: Drop, N: Logs> Taker<'_, T, A, M, N> {
             self.end = self.fetch(rt);
         }
         let text = self.texts.pop_front()?;
-        self.given = self.given.and(&text);
+        self.given.note(&text);
         Some(text)
     }
 

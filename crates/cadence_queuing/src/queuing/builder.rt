@@ -15,7 +15,7 @@ use cadence_errors::MetricResult;
 use cadence_flow::thread::start;
 use cadence_flow::{Handler, MetricSink, SinkErrorHandler};
 use cadence_queue::{Latch, QueuePolicy, SharedQueue};
-use cadence_stage::{Entry, GhostList, Logs, Named, Names, Right, Seen, Stage, twins};
+use cadence_stage::{Entry, Logs, Named, Names, OwnLog, Right, Seen, Stage, twins};
 use std::alloc::{Allocator, Global};
 use std::marker::PhantomData;
 use std::sync::{Arc, Wait};
@@ -175,7 +175,7 @@ impl<A: Allocator + Clone + Send + Sync + 'static> QueuingMetricSinkBuilder<A> {
         let sink = make_sink(rt, alloc, sink, queue, self.period)?;
         let (mut taken, take) = twins();
         let (_fed, feed) = twins();
-        let worker = make_worker(&sink, take, taken.seen(), feed, GhostList::new())?;
+        let worker = make_worker(&sink, take, taken.seen(), feed, OwnLog::new())?;
         start(&sink.rt, worker, self.handler)?;
         Ok(sink)
     }
@@ -205,7 +205,7 @@ impl<A: Allocator + Clone + Send + Sync + 'static> QueuingMetricSinkBuilder<A> {
         } = logs;
         let queue = SharedQueue::with_logs(alloc.clone()?, self.capacity, self.policy, queue)?;
         let sink = make_sink(rt, alloc, sink, queue, self.period)?;
-        let worker = make_worker(&sink, take, seen, feed, GhostList::new())?;
+        let worker = make_worker(&sink, take, seen, feed, OwnLog::new())?;
         start(&sink.rt, worker, self.handler)?;
         Ok(sink)
     }

@@ -7,6 +7,7 @@ ghost use Rattle.cadence_queue.specs.End.{texts_of};
 ghost use Rattle.cadence_queue.specs.Taker.{given_by, has_ended};
 ghost use Rattle.cadence_stage.specs.Call.{call_of};
 ghost use Rattle.cadence_stage.specs.Past.{lines_in};
+ghost use Rattle.cadence_stage.specs.OwnLog.{items_of};
 
 use crate::feeds::Feeds;
 use crate::flush_timer::FlushTimer;
@@ -15,7 +16,7 @@ use cadence_errors::SinkError;
 use cadence_flow::Handler;
 use cadence_flow::thread::Job;
 use cadence_queue::{Latch, SharedQueue, Taker, TakerEnd, TakerRoom};
-use cadence_stage::{Entry, GhostList, Logs, Right, Seen};
+use cadence_stage::{Entry, Logs, OwnLog, Right, Seen};
 use std::alloc::Allocator;
 use std::marker::PhantomData;
 use std::sync::{Arc, Wait};
@@ -103,13 +104,13 @@ struct QueueWorklist<'a, S: Drop, R: Wait + Clock + Drop, A: Allocator, N: Feeds
     sink: &'a S,
     handler: &'a H,
     taker: Taker<'a, String<A>, A, String<A>, N>,
-    handed: GhostList<String<A>>,
+    handed: OwnLog<String<A>>,
     fed: N::Fed,
     feed: Right<Entry>,
     timer: FlushTimer,
-    ghost same: { N.handed fed ≡ map string_bytes handed.items },
+    ghost same: { N.handed fed ≡ map string_bytes (items_of handed) },
     ghost given: { ForSome N.logs (λ names. (feed.name ≡ names.fed)
-        × (lines_in (map call_of feed.items) ≡ map string_bytes handed.items)) },
+        × (lines_in (map call_of feed.items) ≡ map string_bytes (items_of handed))) },
 }
 
 impl<
@@ -123,7 +124,7 @@ impl<
     // Makes a list that has given no text yet. Its timer has the period of the queue.
     fn new(rt: &'a R, shared: &'a Shared<S, A, N>, handler: &'a H, start: Start<S, A, N>) -> Self
         ensures given { given_by result.taker ≡ [] }
-        ensures handed { result.handed.items ≡ [] }
+        ensures handed { items_of result.handed ≡ [] }
         ensures ended { has_ended result.taker ≡ false }
         ensures period { CountsAsIfAny shared.now.period result.timer.period }
     {
@@ -140,7 +141,7 @@ impl<
             sink: &shared.sink,
             handler,
             taker: shared.queue.taker_by(rt, room, take, seen),
-            handed: GhostList::new(),
+            handed: OwnLog::new(),
             fed,
             feed,
             timer: FlushTimer::start(shared.period, Instant::now(rt).ok()),
@@ -231,7 +232,7 @@ impl<
     // Ends the list, after all its texts have been handed on.
     fn finish(self) -> Passed<A, N>
         requires ended { has_ended self.taker ≡ true }
-        requires all { self.handed.items ≡ given_by self.taker }
+        requires all { items_of self.handed ≡ given_by self.taker }
     {
         let QueueWorklist {
             rt: _,
@@ -256,7 +257,7 @@ impl<S: Drop, R: Wait + Clock + Drop, A: Allocator + Clone, N: Feeds<S, A>, H: R
 
     ghost given = { λ w. given_by w.taker };
 
-    ghost handed = { λ w. w.handed.items };
+    ghost handed = { λ w. items_of w.handed };
 
     ghost ended = { λ w. has_ended w.taker };
 
@@ -272,7 +273,7 @@ impl<S: Drop, R: Wait + Clock + Drop, A: Allocator + Clone, N: Feeds<S, A>, H: R
     fn hand(&mut self, text: String<A>) {
         let mut from = self.taker.seen();
         let answer = N::hand(self.sink, &mut self.fed, &mut self.feed, &text, &mut from);
-        self.handed = self.handed.and(&text);
+        self.handed.note(&text);
         if let Err(fault) = answer {
             self.handler.report(fault);
         }

@@ -1,6 +1,7 @@
 -- What a whole run with sums before its packer shows.
 use Rattle.std.proofs.Common.{◌≡◌, ℕ, ◌^◌, ◌<◌, ◌≤◌, List, [], ◌++◌, Option, Vec, length, map, refl, sym, ap, ◌∙◌, subst, arith}
 use Rattle.std.specs.List.{AllByRecursion, zip}
+use Rattle.cadence_stage.specs.OwnLog.{items_of}
 use Rattle.cadence_aggregate.specs.Aggregate.{held}
 use Rattle.cadence_aggregating.specs.Notes.{line_of_note, sample_of_note}
 use Rattle.cadence_aggregating.specs.Past.{SumsUp, Summarizes}
@@ -57,7 +58,7 @@ module _ {W A : Type 0} (kind_of : W → WriterKind) (history_of : W → PacketH
   module _ (law : (metric : Metric) → 0 < length (line_of metric)) (least : LeastPackets) (first : PackedSums (CountingWriter W) A)
       (run : Running (PackedSums (CountingWriter W) A) A) (replies : Vec Reply A)
       (new : IsNew kind_of history_of settings capacity ending queue policy steps writer first.sink.packing)
-      (none_held : held first.lines.aggregator ≡ []) (none_noted : first.sink.notes.items ≡ [])
+      (none_held : held first.lines.aggregator ≡ []) (none_noted : items_of first.sink.notes ≡ [])
       (one_each : length replies.items ≡ length steps) (few : length steps < 2 ^ 64)
       (r : Runs leads (line_of_data settings) queue policy first run (zip steps replies.items)) where
     abbrev lines : Call A → Option (List ℕ)
@@ -84,7 +85,7 @@ module _ {W A : Type 0} (kind_of : W → WriterKind) (history_of : W → PacketH
         (ap texts_in (after history_of (with_aggregator given) leads first run summing.sink.packing replies one_each few r causes).kept_is)
         (subst (λ ls. Summarizes (texts_in (taken_in r.given)) ls (held summing.lines.aggregator))
         (calls.packs.lines ∙ ap (λ ns. map line_of_note ns ++ texts_in (taken_in calls.all)) none_noted)
-        (summarizes (texts_in (taken_in r.given)) summing.sink.notes.items (held summing.lines.aggregator) calls.past))
+        (summarizes (texts_in (taken_in r.given)) (items_of summing.sink.notes) (held summing.lines.aggregator) calls.past))
 
     -- the promise, of a whole run
     pub has_aggregated : length summing.sink.packing.packer.held ≤ summing.sink.packing.packer.format.capacity

@@ -1,4 +1,5 @@
 use Rattle.std.proofs.Math.Logic.{∥∥₁_map}
+use Rattle.cadence_stage.specs.OwnLog.{items_of}
 use Rattle.cadence_aggregating.specs.Sums.{accepted_by, held_by}
 use Rattle.cadence_aggregating.proofs.Origins.{comes_from}
 use Rattle.cadence_aggregating.proofs.Records.{past_shows}
@@ -7,9 +8,9 @@ use Rattle.cadence_aggregating.proofs.recorded.RecordedAggregator.keeps_the_reco
 pub returns-clause-summary : goal.returns-clause-summary
 returns-clause-summary g c =
     let a = c.args.self.now in
-    past_shows a.sums.limits.most_bytes (accepted_by a.sums) a.printer.notes.items (held_by a.sums) a.past
+    past_shows a.sums.limits.most_bytes (accepted_by a.sums) (items_of a.printer.notes) (held_by a.sums) a.past
 
 pub returns-clause-origins : goal.returns-clause-origins
 returns-clause-origins g c =
     let a = c.args.self.now in
-    ∥∥₁_map a.past (comes_from a.sums.limits.most_bytes (accepted_by a.sums) a.printer.notes.items (held_by a.sums))
+    ∥∥₁_map a.past (comes_from a.sums.limits.most_bytes (accepted_by a.sums) (items_of a.printer.notes) (held_by a.sums))

@@ -1,4 +1,5 @@
 use Rattle.std.proofs.Math.Logic.{∥∥₁_map}
+use Rattle.cadence_stage.specs.OwnLog.{items_of}
 use Rattle.cadence_aggregating.specs.Calls.{line_of_keyed}
 use Rattle.cadence_aggregating.specs.Waiting.{notes_of}
 use Rattle.cadence_aggregating.proofs.Records.{quiet_waiting}
@@ -8,5 +9,5 @@ pub returns-in-Some-clause-quiet : goal.returns-in-Some-clause-quiet
 returns-in-Some-clause-quiet c =
     let old = c.args.self.now in
     let waiting = c.call.new.sink in
-    ∥∥₁_map c.in-Some.ensures.quiet (quiet_waiting old.sums.limits old.sums.aggregator (line_of_keyed c.args.call) old.waiting.gone.items waiting.gone.items
+    ∥∥₁_map c.in-Some.ensures.quiet (quiet_waiting old.sums.limits old.sums.aggregator (line_of_keyed c.args.call) (items_of old.waiting.gone) (items_of waiting.gone)
     (notes_of old.waiting) (notes_of waiting) c.call.ensures.leads.0)

@@ -1,5 +1,6 @@
 use Rattle.std.proofs.Common.{◌≡◌, ◌++◌, ◌∙◌, length, ap, sym, subst}
 use Rattle.std.proofs.Math.Logic.{∥∥₁_map, ∥∥₁_elim, ∥∥₁_prop}
+use Rattle.cadence_stage.specs.OwnLog.{items_of}
 use Rattle.cadence_aggregate.specs.Aggregate.{held}
 use Rattle.cadence_aggregate.specs.Lines.{sample_of}
 use Rattle.cadence_aggregating.specs.Accepted.{line_of_entry, lines_of_entries}
@@ -17,7 +18,7 @@ returns-in_err-add_or_pass-clause-summary g c = λ past.
     let before = g.S.LineSink.sent c.args.sink.now in
     let after = g.S.LineSink.sent new.sink in
     let within = none_said old.limits.most_bytes (before ++ held old.aggregator) (after ++ held new.aggregator) (rw old.limit at c.in_err-add_or_pass.ensures.within) in
-    ∥∥₁_map past (λ p. past_kept old.limits.most_bytes (lines_of_entries old.accepted.items) before (held old.aggregator) after (held new.aggregator) p
+    ∥∥₁_map past (λ p. past_kept old.limits.most_bytes (lines_of_entries (items_of old.accepted)) before (held old.aggregator) after (held new.aggregator) p
     c.in_err-add_or_pass.ensures.err within)
 
 pub returns-clause-summary : goal.returns-clause-summary
@@ -26,14 +27,14 @@ returns-clause-summary g c = λ past.
     let new = c.add_or_pass.new in
     let said = sample_of c.in-Ok.said in
     let is_line : line_of_entry c.of.result ≡ line_of_keyed c.args.call = ap line_saying c.of.ensures ∙ c.in-Ok.ensures.line in
-    rw c.and.ensures (∥∥₁_elim c.in-Ok.ensures.says ∥∥₁_prop (λ says. ∥∥₁_map past (λ p. past_more old.limits.most_bytes old.accepted.items c.of.result
+    rw c.note.ensures.items (∥∥₁_elim c.in-Ok.ensures.says ∥∥₁_prop (λ says. ∥∥₁_map past (λ p. past_more old.limits.most_bytes (items_of old.accepted) c.of.result
     (g.S.LineSink.sent c.args.sink.now) (held old.aggregator) (g.S.LineSink.sent new.sink) (held new.aggregator) said p
     (subst (λ line. LineSays line said) (sym is_line) says) c.in_ok-add_or_pass.ensures.ok (rw old.limit at c.in_ok-add_or_pass.ensures.within))))
 
 pub returns-clause-ok : goal.returns-clause-ok
 returns-clause-ok g c =
-    ap lines_of_entries c.and.ensures
-    ∙ entry_more c.args.self.now.accepted.items c.of.result (line_of_keyed c.args.call) (ap line_saying c.of.ensures ∙ c.in-Ok.ensures.line)
+    ap lines_of_entries c.note.ensures.items
+    ∙ entry_more (items_of c.args.self.now.accepted) c.of.result (line_of_keyed c.args.call) (ap line_saying c.of.ensures ∙ c.in-Ok.ensures.line)
 
 pub returns-clause-quiet : goal.returns-clause-quiet
 returns-clause-quiet g c =

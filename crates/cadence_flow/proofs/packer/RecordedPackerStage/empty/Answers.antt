@@ -1,5 +1,6 @@
 use Rattle.std.proofs.Common.{List, map, subst, sym}
 use Rattle.std.specs.Option.{ok_or}
+use Rattle.cadence_stage.specs.OwnLog.{items_of}
 use Rattle.cadence_stage.specs.Call.{call_of}
 use Rattle.cadence_flow.specs.Packed.{IsPacked}
 use Rattle.cadence_stage.specs.declared.entry.Entry.{Entry}
@@ -15,6 +16,6 @@ invariant_of-self g c =
     let more = packed_flush g.W.PacketWriter.kind g.W.PacketWriter.history old.lines new (ok_or sent.result sent.new.fault)
     sent.ensures.flushes sent.ensures.offers in
     record {
-      packed = subst (λ (es : List Entry). ∥ IsPacked new (map call_of es) ∥₁) (sym c.and.ensures)
-          (logged_more IsPacked old.lines new old.log.items _ _ c.of_flush.ensures more old.packed);
+      packed = subst (λ (es : List Entry). ∥ IsPacked new (map call_of es) ∥₁) (sym c.note.ensures.items)
+          (logged_more IsPacked old.lines new (items_of old.log) _ _ c.of_flush.ensures more old.packed);
     }

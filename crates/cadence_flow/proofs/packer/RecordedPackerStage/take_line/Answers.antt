@@ -1,5 +1,6 @@
 use Rattle.std.proofs.Common.{ℕ, List, [], ◌∷◌, ◌++◌, map, subst, sym}
 use Rattle.std.specs.Option.{ok_or}
+use Rattle.cadence_stage.specs.OwnLog.{items_of}
 use Rattle.cadence_stage.specs.Call.{Call, Line, call_of}
 use Rattle.cadence_flow.specs.Packed.{IsPacked}
 use Rattle.cadence_stage.specs.declared.entry.Entry.{Entry}
@@ -18,6 +19,6 @@ invariant_of-self g c =
     (packed_line g.W.PacketWriter.kind g.W.PacketWriter.history old.lines new c.as_bytes.result.now answer wrote.ensures.writes wrote.ensures.offers
     past was) in
     record {
-      packed = subst (λ (es : List Entry). ∥ IsPacked new (map call_of es) ∥₁) (sym c.and.ensures)
-          (logged_more IsPacked old.lines new old.log.items _ _ c.of_line.ensures more old.packed);
+      packed = subst (λ (es : List Entry). ∥ IsPacked new (map call_of es) ∥₁) (sym c.note.ensures.items)
+          (logged_more IsPacked old.lines new (items_of old.log) _ _ c.of_line.ensures more old.packed);
     }

@@ -1,5 +1,6 @@
 use Rattle.std.proofs.Common.{◌≡◌, ◌++◌, [], map, sym, ap, ◌∙◌, append-nil}
 use Rattle.std.proofs.lemmas.Result.{IfOk-weaker}
+use Rattle.cadence_stage.specs.OwnLog.{items_of}
 use Rattle.cadence_aggregate.specs.Aggregate.{held}
 use Rattle.cadence_aggregating.specs.Notes.{sample_of_note}
 use Rattle.cadence_aggregating.specs.Printed.{line_saying}
@@ -12,7 +13,7 @@ returns-in-Some g c =
     let before = held c.args.self.now.aggregator in
     let waiting = c.flush.new.sink in
     let notes = notes_of waiting in
-    let gone : waiting.gone.items ≡ [] = c.flush.ensures.leads.0 ∙ c.new-waiting.ensures.gone in
+    let gone : items_of waiting.gone ≡ [] = c.flush.ensures.leads.0 ∙ c.new-waiting.ensures.gone in
     let said : map sample_of_note notes ≡ before = ap (λ g. map sample_of_note (g ++ notes)) (sym gone) ∙ sym (append-nil (map sample_of_note (all_notes_of waiting)))
     ∙ ap (λ h. map sample_of_note (all_notes_of waiting) ++ h) (sym c.in-Some.ensures.ok) ∙ c.in-Some.ensures.same
     ∙ ap (λ ns. map sample_of_note ns ++ before) c.new-waiting.ensures.all in

@@ -16,6 +16,6 @@ returns-in_err-_count-clause-leads g c =
 pub returns-clause-leads : goal.returns-clause-leads
 returns-clause-leads g c =
     let old = c.args.self.now in
-    let new = record old { packing = c.take_line.new.self; text = c.note_line.new.text; notes = c.and.result } in
+    let new = record old { packing = c.take_line.new.self; text = c.note_line.new.text; notes = c.note.new.self } in
     line_kept g.P.PacketWriter.kind g.P.PacketWriter.history old new c.deref.result.now c.in_ok-_count._count c.in-Ok.note
-    c.in_ok-_count.ensures.step c.and.ensures (c.deref.ensures ∙ c.in-Ok.ensures.line)
+    c.in_ok-_count.ensures.step c.note.ensures.items (c.deref.ensures ∙ c.in-Ok.ensures.line)

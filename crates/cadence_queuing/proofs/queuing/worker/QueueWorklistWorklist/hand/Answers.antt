@@ -1,4 +1,5 @@
 use Rattle.std.proofs.Common.{refl}
+use Rattle.cadence_stage.specs.OwnLog.{items_of}
 use Rattle.cadence_queuing.proofs.Looks.{next_begins}
 use Rattle.cadence_queuing.proofs.queuing.worker.QueueWorklistWorklist.hand.Goals as goal
 
@@ -11,6 +12,6 @@ hand-answer-requires g c =
           let given = now.given names is in (
             given.0,
             seen.0,
-            rw (given.1, seen.1) (∣ next_begins now.handed.items _ now.taker.texts.items _ c.args.text (c.requires refl) now.taker.whole ∣₁),
+            rw (given.1, seen.1) (∣ next_begins (items_of now.handed) _ now.taker.texts.items _ c.args.text (c.requires refl) now.taker.whole ∣₁),
           );
     }
