@@ -8,8 +8,9 @@ ghost use Rattle.cadence_host.specs.Texts.{AreTextsOf, HasTextsOf, IsUtf8Setting
 use crate::call::{COptions, are_clear_options, read_text};
 use cadence_settings::text_is_free;
 
-/// The texts of settings, whether the settings are strict, and whether they clean the texts of calls. `prefix` is what each line begins with, `tags` is the text
-/// of the default tags, and `container` is the default container if `contained` is set.
+/// The texts of settings, whether the settings are strict, and whether they clean the texts of calls. `prefix` is what
+/// each line begins with, `tags` is the text of the default tags, and `container` is the default container if
+/// `contained` is set.
 #[repr(C)]
 #[derive(Clone, Copy)]
 pub struct CSettings<'a> {
@@ -51,8 +52,8 @@ pub fn read_settings<'a>(settings: &CSettings<'a>, known: bool) -> Option<Texts<
     })
 }
 
-/// Returns whether settings allow the texts of a call: all texts, or if they are strict, those without a separator other
-/// than colons after the keys of tags.
+/// Returns whether settings allow the texts of a call: all texts, or if they are strict, those without a separator
+/// other than colons after the keys of tags.
 #[inline(always)]
 pub fn allows_c_call(strict: bool, key: &str, options: &COptions<'_>) -> bool
     requires { IsUtf8Options options.now }
