@@ -223,6 +223,57 @@ static void order_of_a_client(void) {
     cadence_free(&closed);
 }
 
+/* Returns whether a text has this status in each place of a call, and where a text alone is tested. */
+static bool has_status(const uint8_t *text, size_t len, uint32_t status) {
+    const cadence_tag keyed = { text, len, BYTES("v"), true }, alone = { NULL, 0, text, len, false };
+    cadence_settings prefix = nothing, tags = nothing, container = nothing;
+    cadence_options contained = none;
+    const cadence_options key_of_tag = cadence_options_of(&keyed, 1), text_of_tag = cadence_options_of(&alone, 1);
+    uint8_t out[128];
+    size_t length;
+    prefix.prefix = tags.tags = container.container = contained.container = text;
+    prefix.prefix_len = tags.tags_len = container.container_len = contained.container_len = len;
+    container.contained = contained.contained = true;
+#define LINE(settings, options) cadence_format_signed(&settings, 0, BYTES("k"), &one, 1, &options, out, sizeof out, &length)
+    return cadence_test_text(text, len) == status && LINE(prefix, none) == status && LINE(tags, none) == status
+        && LINE(container, none) == status && LINE(nothing, contained) == status && LINE(nothing, key_of_tag) == status
+        && LINE(nothing, text_of_tag) == status
+        && cadence_format_signed(&nothing, 0, text, len, &one, 1, &none, out, sizeof out, &length) == status;
+#undef LINE
+}
+
+/* Texts of up to 40 bytes, with a character that isn't ASCII, or with a part of one, in each place. The bytes around a text
+ * aren't ASCII. */
+static void texts_of_each_length(void) {
+    static const struct { const char *bytes; uint32_t status; } rows[] = {
+        { "\xc2\x80", CADENCE_OK },
+        { "\xe2\x82\xac", CADENCE_OK },
+        { "\xf0\x9f\x98\x80", CADENCE_OK },
+        { "\x80", CADENCE_NOT_UTF8 },
+        { "\xff", CADENCE_NOT_UTF8 },
+        { "\xc3", CADENCE_NOT_UTF8 },
+        { "\xe2\x82", CADENCE_NOT_UTF8 },
+        { "\xf0\x9f\x98", CADENCE_NOT_UTF8 },
+        { "\xc0\x80", CADENCE_NOT_UTF8 },
+        { "\xed\xa0\x80", CADENCE_NOT_UTF8 },
+        { "\xf4\x90\x80\x80", CADENCE_NOT_UTF8 },
+    };
+    uint8_t room[42], *const text = room + 1;
+    for (size_t len = 0; len <= 40; len++) {
+        memset(room, 0xff, sizeof room);
+        memset(text, 0x7f, len);
+        CHECK(has_status(text, len, CADENCE_OK));
+        for (size_t row = 0; row < sizeof rows / sizeof *rows; row++) {
+            const size_t wide = strlen(rows[row].bytes);
+            for (size_t at = 0; at + wide <= len; at++) {
+                memcpy(text + at, rows[row].bytes, wide);
+                CHECK(has_status(text, len, rows[row].status));
+                memset(text + at, 0x7f, wide);
+            }
+        }
+    }
+}
+
 static void order_of_a_call(void) {
     cadence_handle closed = CADENCE_CLOSED, open = opened(0, CADENCE_REFUSE);
     const cadence_tag bad_tag = { NULL, 0, BAD, false };
@@ -506,6 +557,7 @@ int main(void) {
     prefixes_have_one_dot();
     integers();
     order_of_a_client();
+    texts_of_each_length();
     order_of_a_call();
     levels_in_packets();
     order_of_a_line();
