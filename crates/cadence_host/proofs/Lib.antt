@@ -2,4 +2,5 @@
 -- of single functions.
 pub mod Lines
 pub mod Lists
+pub mod Masks
 pub mod Runs

@@ -1,4 +1,5 @@
 pub mod Status
+pub mod Ascii
 pub mod Calls
 pub mod Texts
 pub mod Tested

@@ -7,6 +7,7 @@ ghost use Rattle.cadence_text.specs.Record.{tag_of as record_tag};
 ghost use Rattle.cadence_host.specs.declared.status.StatusError.TheVariants.{Invalid};
 ghost use Rattle.cadence_host.specs.Calls.{IsUtf8Options, c_tag, kind_named, HasInvalidRate, IsNumberOf, IsRateOf, IsUtf8Tag, are_clear_options};
 
+use crate::ascii::is_ascii;
 use crate::status::StatusError;
 use cadence_settings::{tag_is_clear, text_is_free};
 use cadence_text::line::{MetricType, Tag};
@@ -84,9 +85,19 @@ pub fn text_of(bytes: &[u8]) -> Option<&str>
     ensures text { IfSome result (λ t. (t.now ≡ bytes.now) × IsUtf8 bytes.now) }
     ensures none { IfNone result (IsUtf8 bytes.now → ⊥) }
 {
-    if bytes.is_ascii() {
+    if is_ascii(bytes) {
         return Some(unsafe { str::from_utf8_unchecked(bytes) });
     }
+    any_text_of(bytes)
+}
+
+// Returns the text of any bytes if they are UTF-8. Only few texts aren't ASCII, so it is never inlined.
+#[cold]
+#[inline(never)]
+fn any_text_of(bytes: &[u8]) -> Option<&str>
+    ensures text { IfSome result (λ t. (t.now ≡ bytes.now) × IsUtf8 bytes.now) }
+    ensures none { IfNone result (IsUtf8 bytes.now → ⊥) }
+{
     str::from_utf8(bytes).ok()
 }
 
@@ -99,10 +110,6 @@ pub fn read_text(bytes: &[u8], known: bool) -> Option<&str>
     if known {
         return Some(unsafe { str::from_utf8_unchecked(bytes) });
     }
-    // Settings without tags and without a container have empty texts.
-    if bytes.is_empty() {
-        return Some("");
-    }
     text_of(bytes)
 }
 
@@ -112,11 +119,18 @@ pub fn tag_of<'a>(tag: &CTag<'a>) -> Option<Tag<'a>>
     ensures texts { IfSome result (λ _. IsUtf8Tag tag.now) }
     ensures none { IfNone result (IsUtf8Tag tag.now → ⊥) }
 {
-    text_of(tag.text)?;
-    if tag.keyed {
-        text_of(tag.key)?;
+    if !is_tag(tag) {
+        return None;
     }
     Some(known_tag(tag))
+}
+
+// Returns whether the texts of the tag are UTF-8.
+fn is_tag(tag: &CTag<'_>) -> bool
+    ensures yes { result ≡ true → IsUtf8Tag tag.now }
+    ensures no { result ≡ false → IsUtf8Tag tag.now → ⊥ }
+{
+    text_of(tag.text).is_some() && (!tag.keyed || text_of(tag.key).is_some())
 }
 
 /// Returns a tag whose texts are UTF-8, without testing them.
@@ -141,9 +155,9 @@ pub fn are_tags(tags: &[CTag<'_>]) -> bool
     ensures no { result ≡ false → All IsUtf8Tag tags.now → ⊥ }
 {
     for tag in tags {
-        let Some(_tag) = tag_of(tag) else {
+        if !is_tag(tag) {
             return false;
-        };
+        }
     }
     true
 }

@@ -8,7 +8,7 @@ use Rattle.cadence_host.proofs.call.are_tags.Goals as goal
 
 pub loop-tag-preserved : goal.loop-tag-preserved
 loop-tag-preserved c =
-    All-more IsUtf8Tag c.args.tags.now c.loop-tag.tag-index _ c.loop-tag-test.true c.loop-tag.invariant c.in-Some.ensures.texts
+    All-more IsUtf8Tag c.args.tags.now c.loop-tag.tag-index _ c.loop-tag-test.true c.loop-tag.invariant (c.is_tag.ensures.yes c.if-not-is_tag.false)
 
 pub returns-clause-yes : goal.returns-clause-yes
 returns-clause-yes c said =
