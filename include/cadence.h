@@ -179,8 +179,8 @@ typedef struct cadence_tag {
  * line of cadence_line is not tested.
  * If `cleaned` is set, and `strict` isn't, no call is refused for these bytes: each of them is printed as a '_'. The
  * colons in the text of a tag with a key stay. The texts of the settings are cleaned when they are made:
- * cadence_prefix_text and cadence_tags_text clean theirs, and cadence_cleaned_text a container. The member of a set,
- * and the texts of an event or of a service check are never cleaned. If both are set, the settings are strict. */
+ * cadence_prefix_text and cadence_tags_text clean theirs, and cadence_cleaned_text a container. The member of a set is
+ * never cleaned. If both are set, the settings are strict. */
 typedef struct cadence_settings {
     const uint8_t *prefix;
     size_t prefix_len;
@@ -348,11 +348,12 @@ uint32_t cadence_line(cadence_handle *handle, const uint8_t *line, size_t line_l
 
 /* These two calls keep the line of an event or of a service check, which is packed like that of a metric. It has the
  * default tags and the default container of the settings, and no prefix. Sums never get it. The grammar of DogStatsD
- * has no escape for a separator, so a text that can't stand in the line is refused, whether the settings are strict,
- * cleaned or neither. The texts of the settings are not tested for that: they are tested when they are made, if the
- * settings are strict. Texts are always tested for UTF-8. They return CADENCE_OK, CADENCE_NO_CLIENT, CADENCE_NOT_UTF8
- * for a text of the settings or of the struct, CADENCE_INVALID for the priority, the alert type or the status of the
- * service, CADENCE_UNFIT_HOST or another CADENCE_UNFIT_ for the text that can't stand in the line, CADENCE_NO_MEMORY or
+ * has no escape for a separator, so a text that can't stand in the line is refused, also if the settings are not strict.
+ * If they clean texts, each of its separators is a '_', and so is each bar of a message: no call is refused for a text.
+ * The texts of the settings are not tested for that: they are tested when they are made, if the settings are strict.
+ * Texts are always tested for UTF-8. They return CADENCE_OK, CADENCE_NO_CLIENT, CADENCE_NOT_UTF8 for a text of the
+ * settings or of the struct, CADENCE_INVALID for the priority, the alert type or the status of the service,
+ * CADENCE_UNFIT_HOST or another CADENCE_UNFIT_ for the text that can't stand in the line, CADENCE_NO_MEMORY or
  * CADENCE_FULL. If it is not CADENCE_OK, nothing of the line is kept. */
 uint32_t cadence_event(cadence_handle *handle, const cadence_settings *settings, const cadence_event_data *event);
 uint32_t cadence_service_check(cadence_handle *handle, const cadence_settings *settings,

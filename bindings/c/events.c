@@ -21,6 +21,7 @@ static struct {
     cadence_tag tags[TAGS], defaults[TAGS];
     size_t tags_len, defaults_len;
     const char *container;
+    bool is_cleaned;
     char texts[FIELDS][LONGEST];
     size_t texts_len;
 } call;
@@ -87,6 +88,7 @@ static void set_field(const char *field, char *text) {
     } else if (strcmp(field, "tag") == 0) call.tags[call.tags_len++] = tag_of(text);
     else if (strcmp(field, "default_tag") == 0) call.defaults[call.defaults_len++] = tag_of(text);
     else if (strcmp(field, "default_container") == 0) call.container = text;
+    else if (strcmp(field, "cleaned") == 0) call.is_cleaned = true;
     else fail(field);
 }
 
@@ -120,8 +122,9 @@ static void say(char *to) {
     cadence_settings settings = CADENCE_NO_SETTINGS;
     cadence_handle client = CADENCE_CLOSED;
     cadence_counts_of counts;
-    uint32_t status = cadence_settings_make(&settings, "no.prefix", call.defaults, call.defaults_len, call.container,
-                                            true, room, sizeof room, &len);
+    uint32_t status = call.is_cleaned
+        ? cadence_settings_make_cleaned(&settings, "no.prefix", call.defaults, call.defaults_len, call.container, room, sizeof room, &len)
+        : cadence_settings_make(&settings, "no.prefix", call.defaults, call.defaults_len, call.container, true, room, sizeof room, &len);
     if (status == CADENCE_OK) status = cadence_open(&client, 0, 2, CADENCE_REFUSE);
     if (status == CADENCE_OK) status = keep(&client, &settings);
     if (cadence_counts(&client, &counts) != CADENCE_OK || counts.made != (status == CADENCE_OK) || counts.held != 0)
@@ -192,5 +195,5 @@ int main(int argc, char **argv) {
     }
     test_statuses();
     printf("%d rows, %d differ\n", rows, failures);
-    return failures != 0 || rows < 65;
+    return failures != 0 || rows < 80;
 }

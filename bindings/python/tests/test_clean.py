@@ -3,7 +3,7 @@
 import unittest
 
 from receiver import ClientTest, Recorder
-from statsd_proved import SpyStatsClient, StatsClient, Status, StatusError
+from statsd_proved import SpyStatsClient, StatsClient
 
 
 def lines_of(calls, *prefix, **words):
@@ -35,15 +35,12 @@ class Clean(unittest.TestCase):
                                     c.gauge("g:", -1, tags=["a|b"], container=",")))
         self.assertEqual(lines, ["s_:a,b|s|#k:a_b", "s_:3|s", "g_:+1|g", "g_:0|g|#a_b|c:_", "g_:-1|g|#a_b|c:_"])
 
-    def test_members_events_and_lines_of_ones_own_are_not_cleaned(self):
+    def test_members_and_lines_of_ones_own_are_not_cleaned(self):
         with SpyStatsClient(clean=True, raises=True, tags=[("k:", "v")]) as client:
             self.assertRaises(ValueError, client.set, "s", "a:b")
-            with self.assertRaises(StatusError) as raised:
-                client.event("title", "text", tags=["a,b"])
-            self.assertEqual(raised.exception.status, Status.UNFIT_TAGS)
-            client.event("a:b", "c", tags=["page:home"])
+            client.event("a:b", "c", hostname="a|b", tags=["page:home,x", "url:http://x"])
             client.raw("own:1|c|#a,b")
-            self.assertEqual(client.lines, ["_e{3,1}:a:b|c|#k_:v,page:home", "own:1|c|#a,b"])
+            self.assertEqual(client.lines, ["_e{3,1}:a:b|c|h:a_b|#k_:v,page:home_x,url:http://x", "own:1|c|#a,b"])
 
     def test_a_pipeline_sums_and_a_client_after_a_fork(self):
         def calls(client):

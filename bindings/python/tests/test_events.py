@@ -43,7 +43,7 @@ def lines_of(call):
         if name == "status":
             words["status"] = STATES[given]
     defaults = {"tags": [tag(given) for name, given in fields if name == "default_tag"],
-                "container": dict(fields).get("default_container")}
+                "container": dict(fields).get("default_container"), "clean": "cleaned" in dict(fields)}
     with SpyStatsClient("no.prefix", raises=True, **defaults) as client:
         if kind == "event":
             client.event(words.pop("title"), words.pop("text"), **words)
@@ -55,7 +55,7 @@ def lines_of(call):
 class Rows(unittest.TestCase):
     def test_each_row_is_sent_or_refused(self):
         rows = [row.split(" <- ") for row in ROWS.read_text().split("\n") if " <- " in row and not row.startswith("#")]
-        self.assertGreater(len(rows), 65)
+        self.assertGreater(len(rows), 80)
         for wanted, call in rows:
             with self.subTest(call=call):
                 if not wanted.startswith("refuses "):

@@ -93,9 +93,9 @@ impl StatsdClientBuilder {
     /// Makes a client that cleans texts: each `:`, `,`, `|` and newline in a key, in the key or the value of a tag, or in a
     /// container is sent as `_`. No call is refused for such a character, and no text can make, change or split a metric.
     /// The value of a tag with a key keeps its colons, as in `url:http://x`. The prefix, the default tags and the default
-    /// container are cleaned too. A member of a set, an event and a service check are not: they are refused as before. The
-    /// crate `cadence` doesn't have this call. Of this call and [`with_strict_texts`](Self::with_strict_texts) the last one
-    /// counts.
+    /// container are cleaned too, and so is each text for which an event or a service check would be refused. A member of
+    /// a set is not: it is refused as before. The crate `cadence` doesn't have this call. Of this call and
+    /// [`with_strict_texts`](Self::with_strict_texts) the last one counts.
     ///
     /// ```
     /// use cadence::prelude::*;

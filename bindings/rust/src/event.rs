@@ -101,8 +101,9 @@ macro_rules! builder {
             /// Sends the line, and returns it.
             ///
             /// It fails with `InvalidInput` if a text can't stand in the line, also if the client isn't strict; the text of
-            /// the error says which one. It fails with `IoError` if the sink fails or memory runs out. The client can be
-            /// used after an error.
+            /// the error says which one. A client that cleans texts sends a `_` in place of each character for which the
+            /// text can't. It fails with `IoError` if the sink fails or memory runs out. The client can be used after an
+            /// error.
             pub fn try_send(self) -> MetricResult<$line> {
                 let client = self.client;
                 client.check()?;

@@ -38,16 +38,14 @@ fn texts_without_a_separator_stay() {
 }
 
 #[test]
-fn members_events_and_lines_of_ones_own_are_not_cleaned() {
+fn members_and_lines_of_ones_own_are_not_cleaned() {
     let (received, sink) = SpyMetricSink::new();
     let c = StatsdClient::builder("", sink).with_cleaned_texts().with_tag("k:", "v").build();
     assert!(c.set_text("s", "a:b").is_err());
-    assert!(c.event("title", "text").with_hostname("a|b").try_send().is_err());
-    assert!(c.event("title", "text").with_tag_value("a:b").try_send().is_err());
-    c.event("a:b", "c").try_send().unwrap();
+    c.event("a:b", "c").with_hostname("a|b").with_tag_value("a:b").try_send().unwrap();
     c.send_metric(&Counter::from("own:1|c|#a,b".to_string())).unwrap();
     let lines: Vec<String> = received.try_iter().map(|line| String::from_utf8(line).unwrap()).collect();
-    assert_eq!(vec!["_e{3,1}:a:b|c|#k_:v", "own:1|c|#a,b"], lines);
+    assert_eq!(vec!["_e{3,1}:a:b|c|h:a_b|#k_:v,a_b", "own:1|c|#a,b"], lines);
 }
 
 #[test]

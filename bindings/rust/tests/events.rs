@@ -46,6 +46,9 @@ impl Fields {
 
     fn client(&self) -> StatsdClient {
         let mut builder = StatsdClient::builder("no.prefix", NopMetricSink);
+        if self.get("cleaned").is_some() {
+            builder = builder.with_cleaned_texts();
+        }
         for (key, value) in self.tags("default_tag") {
             builder = match key {
                 Some(key) => builder.with_tag(key, value),
@@ -159,7 +162,7 @@ fn each_row_is_sent_or_refused() {
         }
         seen += 1;
     }
-    assert!(seen > 65, "{seen} rows");
+    assert!(seen > 80, "{seen} rows");
 }
 
 #[test]

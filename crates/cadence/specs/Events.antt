@@ -1,11 +1,12 @@
 -- The events and service checks that a client sends, and what the calls that send them may return.
-use Rattle.std.specs.Prelude.{◌≡◌, ⊤, ℕ, Option, None, Some, IfNone, IfSome, List, [], ◌∷◌, ◌++◌, Result, Ok, Err}
+use Rattle.std.specs.Prelude.{◌≡◌, ⊤, ℕ, Bool, IfErr, IsTrue, Option, None, Some, IfNone, IfSome, List, [], ◌∷◌, ◌++◌, Result, Ok, Err}
 use Rattle.std.specs.Option.{option_map}
 use Rattle.cadence_errors.specs.declared.MetricError.{MetricError}
-use Rattle.cadence_errors.specs.Errors.{IsDescribed, out_of_memory}
+use Rattle.cadence_errors.specs.Errors.{IsDescribed, IsInvalid, out_of_memory}
 use Rattle.cadence_errors.specs.declared.ErrorKind.TheVariants.{InvalidInput}
 use Rattle.cadence_events.specs.declared.refusal.Unfit.{Unfit}
 use Rattle.cadence_events.specs.declared.service_check.ServiceStatus.{ServiceStatus}
+use Rattle.cadence_events.specs.Cleaned.{common_as}
 use Rattle.cadence_events.specs.Event.{Event}
 use Rattle.cadence_events.specs.Lined.{Common, or_container}
 use Rattle.cadence_events.specs.Refusals.{unfit_text}
@@ -83,10 +84,13 @@ SendsFit may (Some why) line (Ok u) = ⊥
 SendsFit may (Some why) line (Err e) = IsDescribed InvalidInput (unfit_text why) e
 
 -- A call sent what a builder has, or refused it. The line has the default tags of the client and then the builder's own,
--- and the default container of the client if the builder has none. Only the texts of the builder are tested. If there
--- are no common fields, because memory ran out before, the result says so.
-pub record SendsBuilt {E C U : Type 0} (settings : C → Settings) (may : C → SinkResults) (refused : E → Common → Option Unfit)
-    (spelled : E → Common → List ℕ → List ℕ) (b : Built E C) (result : Result U MetricError) : Type 0 where
-  pub sent : IfSome b.common (λ c. SendsFit (may b.client) (refused b.own c)
-      (spelled b.own (or_container (settings b.client).container c) (tags_field ((settings b.client).tags ++ c.tags))) result)
+-- and the default container of the client if the builder has none. Only the texts of the builder are tested. If the client
+-- cleans texts, those of the builder are cleaned, and none is refused. If there are no common fields, because memory ran
+-- out before, the result says so.
+pub record SendsBuilt {E C U : Type 0} (settings : C → Settings) (may : C → SinkResults) (refused : Bool → E → Common → Option Unfit)
+    (spelled : Bool → E → Common → List ℕ → List ℕ) (b : Built E C) (result : Result U MetricError) : Type 0 where
+  pub sent : IfSome b.common (λ c. let s = settings b.client in
+      let own = common_as s.cleaned c in
+      SendsFit (may b.client) (refused s.cleaned b.own own) (spelled s.cleaned b.own (or_container s.container own) (tags_field (s.tags ++ own.tags))) result)
+  pub fit : IsTrue (settings b.client).cleaned → IfErr result (λ e. IsInvalid e → ⊥)
   pub failed : IfNone b.common (result ≡ Err out_of_memory)

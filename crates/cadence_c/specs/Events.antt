@@ -1,7 +1,8 @@
 -- Events and service checks of C: what the structs mean, and what a call that keeps their line returns and does.
-use Rattle.std.specs.Prelude.{◌≡◌, ◌⊎◌, All, ℕ, ◌==◌, if◌then◌else◌, List, [], ◌∷◌, length, map, Option, Some, None, Result, String, string_bytes, IfOk}
+use Rattle.std.specs.Prelude.{◌≡◌, ◌⊎◌, All, ℕ, ◌==◌, ◌&&◌, Bool, not, if◌then◌else◌, List, [], ◌∷◌, length, map, Option, Some, None, Result, String, string_bytes, IfOk}
 use Rattle.std.specs.Str.{IsUtf8}
 use Rattle.std.specs.declared.alloc.Global.{Global}
+use Rattle.cadence_events.specs.Cleaned.{check_as, event_as}
 use Rattle.cadence_events.specs.Event.{Event, event_line, event_with}
 use Rattle.cadence_events.specs.Refusals.{check_refusal, event_refusal}
 use Rattle.cadence_events.specs.ServiceCheck.{ServiceCheck, check_line, check_with}
@@ -104,25 +105,29 @@ IsInvalidEvent c = (priority_named c.priority ≡ None) ⊎ (alert_named c.alert
 abbrev pub IsInvalidCheck : CCheck → Type 0
 IsInvalidCheck c = service_status_named c.status ≡ None
 
+-- whether settings clean the texts of calls: strict ones refuse them instead
+abbrev pub cleans_texts : CSettings → Bool
+cleans_texts c = c.cleaned && not c.strict
+
 -- For all settings that have these texts, this is the line of the event with their default tags and their default
--- container.
+-- container. It is the line of the cleaned event if the settings clean texts.
 abbrev pub IsLineOfEvent : CSettings → CEvent → List ℕ → Type 0
 IsLineOfEvent c event line =
-    (e : Event) × IsEventOf event e × ((s : Settings) → AreTextsOf c s → line ≡ event_line (event_with s.tags s.container e))
+    (e : Event) × IsEventOf event e × ((s : Settings) → AreTextsOf c s → line ≡ event_line (event_with s.tags s.container (event_as (cleans_texts c) e)))
 
 -- The same for a service check.
 abbrev pub IsLineOfCheck : CSettings → CCheck → List ℕ → Type 0
 IsLineOfCheck c check line =
-    (e : ServiceCheck) × IsCheckOf check e × ((s : Settings) → AreTextsOf c s → line ≡ check_line (check_with s.tags s.container e))
+    (e : ServiceCheck) × IsCheckOf check e × ((s : Settings) → AreTextsOf c s → line ≡ check_line (check_with s.tags s.container (check_as (cleans_texts c) e)))
 
--- If a text is given, it is the first one that can't stand in the line of the event. If none is given, all of them can. The
--- texts of the settings are not tested.
-abbrev pub IsRefusalOfEvent : CEvent → Option Unfit → Type 0
-IsRefusalOfEvent event why = (e : Event) × IsEventOf event e × (event_refusal e ≡ why)
+-- If a text is given, it is the first one that can't stand in the line of the event, which is cleaned if the settings clean
+-- texts. If none is given, all of them can. The texts of the settings are not tested.
+abbrev pub IsRefusalOfEvent : CSettings → CEvent → Option Unfit → Type 0
+IsRefusalOfEvent c event why = (e : Event) × IsEventOf event e × (event_refusal (event_as (cleans_texts c) e) ≡ why)
 
 -- The same for a service check.
-abbrev pub IsRefusalOfCheck : CCheck → Option Unfit → Type 0
-IsRefusalOfCheck check why = (e : ServiceCheck) × IsCheckOf check e × (check_refusal e ≡ why)
+abbrev pub IsRefusalOfCheck : CSettings → CCheck → Option Unfit → Type 0
+IsRefusalOfCheck c check why = (e : ServiceCheck) × IsCheckOf check e × (check_refusal (check_as (cleans_texts c) e) ≡ why)
 
 -- The status names the first text that can't stand in the line.
 abbrev pub IsUnfit : ℕ → (Option Unfit → Type 0) → Type 0

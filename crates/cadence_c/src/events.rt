@@ -6,7 +6,7 @@ ghost use Rattle.cadence_text.specs.Record.{tag_of as record_tag};
 ghost use Rattle.cadence_events.specs.Event.{event_of as record_event};
 ghost use Rattle.cadence_events.specs.ServiceCheck.{check_of as record_check};
 ghost use Rattle.cadence_host.specs.Calls.{IsUtf8Tag, c_tag};
-ghost use Rattle.cadence_c.specs.Events.{IsCheckOf, IsEventOf, IsInvalidCheck, IsInvalidEvent, IsLineOfCheck, IsLineOfEvent, IsRefusalOfCheck, IsRefusalOfEvent, IsUtf8Check, IsUtf8Event, KeepsEvent, MakesEvent, alert_named, any_text, priority_named, service_status_named};
+ghost use Rattle.cadence_c.specs.Events.{IsCheckOf, IsEventOf, IsInvalidCheck, IsInvalidEvent, IsLineOfCheck, IsLineOfEvent, IsRefusalOfCheck, IsRefusalOfEvent, IsUtf8Check, IsUtf8Event, KeepsEvent, MakesEvent, alert_named, any_text, cleans_texts, priority_named, service_status_named};
 ghost use Rattle.cadence_host.specs.Status.{CADENCE_INVALID, CADENCE_NOT_UTF8, CADENCE_NO_MEMORY, IsOkOr, status};
 ghost use Rattle.cadence_host.specs.Texts.{IsUtf8Settings};
 ghost use Rattle.cadence_host.specs.declared.status.StatusError.TheVariants.{NotUtf8};
@@ -179,16 +179,24 @@ fn check_of<'a>(check: &CCheck<'a>, tags: &'a [Tag<'a>]) -> Result<ServiceCheck<
     })
 }
 
+// Returns whether settings clean the texts of calls. Strict ones refuse them instead.
+fn cleans_texts(settings: &CSettings<'_>) -> bool
+    ensures { result ≡ cleans_texts settings.now }
+{
+    settings.cleaned && !settings.strict
+}
+
 // Returns the line of an event with these settings. The errors are `NotUtf8` for a text of the settings or the event,
 // `Invalid` for its priority or its alert type, `Unfit` with the first text of the event that has a separator (its title
-// and its text may have any byte), and `NoMemory`.
+// and its text may have any byte), unless the settings clean texts, and `NoMemory`.
 fn line_of_event(
     alloc: Global,
     settings: &CSettings<'_>,
     event: &CEvent<'_>,
 ) -> Result<String, StatusError>
     ensures { MakesEvent result (IsLineOfEvent settings.now event.now)
-        (IsRefusalOfEvent event.now) (IsUtf8Settings settings.now × IsUtf8Event event.now)
+        (IsRefusalOfEvent settings.now event.now)
+        (IsUtf8Settings settings.now × IsUtf8Event event.now)
         (IsInvalidEvent event.now) }
 {
     let Some(texts) = read_settings(settings, false) else {
@@ -196,19 +204,20 @@ fn line_of_event(
     };
     let tags = tags_of(alloc, event.tags)?;
     let event = event_of(event, &tags)?;
-    Ok(event.line_with(alloc, texts.tags, texts.container)?)
+    Ok(event.line_as(alloc, texts.tags, texts.container, cleans_texts(settings))?)
 }
 
 // Returns the line of a service check with these settings. The errors are `NotUtf8` for a text of the settings or the
 // service check, `Invalid` for its status, `Unfit` with the first text of the service check that has a separator, or a bar
-// if it is the message, and `NoMemory`.
+// if it is the message, unless the settings clean texts, and `NoMemory`.
 fn line_of_check(
     alloc: Global,
     settings: &CSettings<'_>,
     check: &CCheck<'_>,
 ) -> Result<String, StatusError>
     ensures { MakesEvent result (IsLineOfCheck settings.now check.now)
-        (IsRefusalOfCheck check.now) (IsUtf8Settings settings.now × IsUtf8Check check.now)
+        (IsRefusalOfCheck settings.now check.now)
+        (IsUtf8Settings settings.now × IsUtf8Check check.now)
         (IsInvalidCheck check.now) }
 {
     let Some(texts) = read_settings(settings, false) else {
@@ -216,12 +225,12 @@ fn line_of_check(
     };
     let tags = tags_of(alloc, check.tags)?;
     let check = check_of(check, &tags)?;
-    Ok(check.line_with(alloc, texts.tags, texts.container)?)
+    Ok(check.line_as(alloc, texts.tags, texts.container, cleans_texts(settings))?)
 }
 
 /// Keeps the line of an event, with the default tags and the default container of the settings. An event that has a text
-/// with a separator is refused, also if the settings are not strict. Its title and its text may have any byte, and the texts
-/// of the settings are not tested.
+/// with a separator is refused, also if the settings are not strict. If they clean texts, an underscore is sent in place of
+/// the separator. Its title and its text may have any byte, and the texts of the settings are not tested.
 #[unsafe(no_mangle)]
 pub extern "C" fn cadence_event(
     alloc: Global,
@@ -229,7 +238,8 @@ pub extern "C" fn cadence_event(
     settings: &CSettings<'_>,
     event: &CEvent<'_>,
 ) -> u32
-    ensures { KeepsEvent result (IsLineOfEvent settings.now event.now) (IsRefusalOfEvent event.now)
+    ensures { KeepsEvent result (IsLineOfEvent settings.now event.now)
+        (IsRefusalOfEvent settings.now event.now)
         (IsUtf8Settings settings.now × IsUtf8Event event.now) (IsInvalidEvent event.now)
         handle.old handle.new }
 {
@@ -240,8 +250,8 @@ pub extern "C" fn cadence_event(
 }
 
 /// Keeps the line of a service check, with the default tags and the default container of the settings. A service check that
-/// has a text with a separator, or a message with a bar, is refused, also if the settings are not strict. The texts of the
-/// settings are not tested.
+/// has a text with a separator, or a message with a bar, is refused, also if the settings are not strict. If they clean
+/// texts, an underscore is sent in place of the separator or the bar. The texts of the settings are not tested.
 #[unsafe(no_mangle)]
 pub extern "C" fn cadence_service_check(
     alloc: Global,
@@ -249,7 +259,8 @@ pub extern "C" fn cadence_service_check(
     settings: &CSettings<'_>,
     check: &CCheck<'_>,
 ) -> u32
-    ensures { KeepsEvent result (IsLineOfCheck settings.now check.now) (IsRefusalOfCheck check.now)
+    ensures { KeepsEvent result (IsLineOfCheck settings.now check.now)
+        (IsRefusalOfCheck settings.now check.now)
         (IsUtf8Settings settings.now × IsUtf8Check check.now) (IsInvalidCheck check.now)
         handle.old handle.new }
 {

@@ -3,7 +3,7 @@ use Rattle.std.proofs.Common.{suc, ◌≡◌, ◌≢◌, ℕ, ◌+◌, ◌-◌, 
 use Rattle.std.specs.Prelude.{All, codes, ◌==◌, ◌&&◌, if◌then◌else◌}
 use Rattle.std.specs.List.{AllByRecursion}
 use Rattle.std.proofs.lemmas.Bool.{cond-false, ne_eqb}
-use Rattle.std.proofs.lemmas.List.{append-nil, length-append, take_more}
+use Rattle.std.proofs.lemmas.List.{append-nil, append_assoc, length-append, take_more}
 use Rattle.std.proofs.lemmas.List.Concat.{flat_map-append}
 use Rattle.std.proofs.lemmas.List.Elements.{recursion_from_All}
 use Rattle.cadence_events.specs.Escapes.{escaped, escaped_byte, escaped_message, between, marked}
@@ -110,3 +110,19 @@ message_cut text front rest e h =
 pub message_plain : (text : List ℕ) → All (λ b. b ≢ 58) text → escaped_message text ≡ escaped text
 unfolding escaped_message
 message_plain text h = ap escaped (marked_plain text (recursion_from_All (λ b. b ≢ 58) text h))
+
+mark_first : (rest : List ℕ) → marked (95 ∷ rest) ≡ 95 ∷ marked rest
+mark_first [] = refl
+mark_first (b ∷ rest) = refl
+
+-- An underscore (95) belongs to no escape, so the texts on both sides of it are escaped alone.
+marked_sides : (front rest : List ℕ) → marked (front ++ 95 ∷ rest) ≡ marked front ++ 95 ∷ marked rest
+marked_sides [] rest = mark_first rest
+marked_sides (a ∷ []) rest = ap₂ (λ s t. a ∷ (s ++ t)) (no_mark a 95 (λ e. omega (arith, e))) (mark_first rest)
+marked_sides (a ∷ b ∷ front) rest =
+    ap (λ t. a ∷ (between a b ++ t)) (marked_sides (b ∷ front) rest)
+    ∙ ap (λ t. a ∷ t) (sym (append_assoc (between a b) (marked (b ∷ front)) (95 ∷ marked rest)))
+
+pub message_sides : (front rest : List ℕ) → escaped_message (front ++ 95 ∷ rest) ≡ escaped_message front ++ 95 ∷ escaped_message rest
+unfolding escaped escaped_message
+message_sides front rest = ap escaped (marked_sides front rest) ∙ escaped-append (marked front) (95 ∷ marked rest)

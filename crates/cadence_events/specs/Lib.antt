@@ -3,5 +3,6 @@ pub mod Fields
 pub mod Lined
 pub mod Event
 pub mod ServiceCheck
+pub mod Cleaned
 pub mod Refusals
 pub mod LineWriters

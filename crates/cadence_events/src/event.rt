@@ -1,17 +1,20 @@
 //! Events: something that happened, with a title and a text that people read.
-ghost use Rattle.std.specs.Prelude.{◌≡◌, ◌<◌, ◌^◌, [], List, None, IfOk, SomeIff, length, string_bytes};
+ghost use Rattle.std.specs.Prelude.{◌≡◌, ◌<◌, ◌^◌, [], List, None, IfErr, IfOk, IsTrue, SomeIff, length, map, string_bytes};
 ghost use Rattle.std.specs.Option.{option_copied};
+ghost use Rattle.cadence_errors.specs.declared.input_error.InputError.TheVariants.{OutOfMemory};
+ghost use Rattle.cadence_events.specs.Cleaned.{event_as, sent_common};
 ghost use Rattle.cadence_events.specs.Escapes.{escaped};
 ghost use Rattle.cadence_events.specs.Event.{Event, IsCutByLengths, alert_text, event_common, event_fields, event_head, event_line, event_line_with, event_of, event_sharing, event_text, event_with, priority_text};
 ghost use Rattle.cadence_events.specs.Fields.{tags_after};
 ghost use Rattle.cadence_events.specs.Lined.{common_of};
 ghost use Rattle.cadence_events.specs.Refusals.{MakesLine, event_refusal};
+ghost use Rattle.cadence_text.specs.Cleaned.{tag_as};
 ghost use Rattle.cadence_text.specs.Line.{tags_field};
 ghost use Rattle.cadence_text.specs.Metric.{Tag as MetricTag};
 ghost use Rattle.cadence_value.specs.Takes.{Takes};
 
 use crate::escapes::{escaped_len, push_escaped};
-use crate::fields::{push_field, push_seconds, push_tags};
+use crate::fields::{push_container, push_field, push_field_as, push_seconds, push_tags};
 use crate::lined::{Common, Lined, length_of, line_with};
 use crate::refusal::{LineError, Unfit};
 use cadence_settings::{any_is_free, tags_are_clear};
@@ -156,21 +159,53 @@ impl<'a> Event<'a> {
         }
     }
 
-    // Writes the fields of a line, with this text of default tags.
+    // Returns the first text that can't stand in the line with these common fields, if there is one.
+    fn first_unfit(&self, common: &Common<'_>) -> Option<Unfit>
+        ensures { result ≡
+            event_refusal (event_sharing (common_of common.now) (event_of self.now)) }
+    {
+        if !any_is_free(common.host) {
+            return Some(Unfit::Host);
+        }
+        if !any_is_free(self.key) {
+            return Some(Unfit::AggregationKey);
+        }
+        if !any_is_free(self.source) {
+            return Some(Unfit::SourceType);
+        }
+        if !tags_are_clear(common.tags) {
+            return Some(Unfit::Tags);
+        }
+        if !any_is_free(common.container) {
+            return Some(Unfit::Container);
+        }
+        None
+    }
+
+    // Writes the fields of a line, with these defaults.
     #[tactic(auto, using(std::proofs::lemmas::Grind::common_steps))]
-    fn push_fields<S: PieceWriter>(&self, line: &mut S, common: &Common<'_>, tags: &str)
+    fn push_fields<S: PieceWriter>(
+        &self,
+        line: &mut S,
+        common: &Common<'_>,
+        tags: &str,
+        container: Option<&str>,
+        is_cleaned: bool,
+    )
         ensures { Takes S.ends_as line.old
-            (event_fields (event_sharing (common_of common.now) (event_of self.now))
-            (tags_after tags.now (common_of common.now).tags)) line.new }
+            (event_fields (event_sharing
+            (sent_common is_cleaned (option_copied container.entry) (common_of common.now))
+            (event_as is_cleaned (event_of self.now)))
+            (tags_after tags.now (map (tag_as is_cleaned) (common_of common.now).tags))) line.new }
     {
         push_seconds(line, common.time);
-        push_field(line, "|h:", common.host);
-        push_field(line, "|k:", self.key);
+        push_field_as(line, "|h:", common.host, is_cleaned);
+        push_field_as(line, "|k:", self.key, is_cleaned);
         push_field(line, "|p:", self.priority.map(Priority::text));
-        push_field(line, "|s:", self.source);
+        push_field_as(line, "|s:", self.source, is_cleaned);
         push_field(line, "|t:", self.alert.map(AlertType::text));
-        push_tags(line, tags, common.tags);
-        push_field(line, "|c:", common.container);
+        push_tags(line, tags, common.tags, is_cleaned);
+        push_container(line, common.container, container, is_cleaned);
     }
 
     /// Returns the length of the line in bytes, without making the line: `None` if it passes `usize::MAX`. It takes no
@@ -179,7 +214,7 @@ impl<'a> Event<'a> {
         ensures { SomeIff result (length (event_line (event_of self.now)) < 2 ^ 64)
             (length (event_line (event_of self.now))) }
     {
-        length_of(self, &self.common(), "")
+        length_of(self, &self.common(), "", None, false)
     }
 
     /// Returns which text makes `line` refuse the event, or `None` if it accepts all of them. If there are several, it
@@ -187,7 +222,7 @@ impl<'a> Event<'a> {
     pub fn refusal(&self) -> Option<Unfit>
         ensures { result ≡ event_refusal (event_of self.now) }
     {
-        self.refusal_with(&self.common())
+        self.first_unfit(&self.common())
     }
 
     /// Returns the line, without a newline at its end. It takes memory once, as many bytes as the line has
@@ -225,37 +260,60 @@ impl<'a> Event<'a> {
             ≡ event_line
             (event_with defaults (option_copied container.entry) (event_of self.now)) }
     {
-        line_with(alloc, self, &self.common(), tags, container)
+        self.line_as(alloc, tags, container, false)
+    }
+
+    /// Returns the line that `line_with` returns, of the event as it is or, if `is_cleaned` is set, of the cleaned event.
+    /// In its host, aggregation key, source type, tags and container each separator for which they would be refused is
+    /// an underscore, so a cleaned event is never refused. The defaults are not cleaned.
+    ///
+    /// # Errors
+    /// Those of `line`. If `is_cleaned` is set, only `OutOfMemory`.
+    pub fn line_as<A: Allocator>(
+        &self,
+        alloc: A,
+        tags: &str,
+        container: Option<&str>,
+        is_cleaned: bool,
+    ) -> Result<String<A>, LineError>
+        ensures line { MakesLine (event_refusal (event_as is_cleaned (event_of self.now)))
+            (event_line_with tags.now (option_copied container.entry)
+            (event_as is_cleaned (event_of self.now))) result }
+        ensures defaults { (defaults : List MetricTag) → tags.now ≡ tags_field defaults →
+            event_line_with tags.now (option_copied container.entry)
+            (event_as is_cleaned (event_of self.now))
+            ≡ event_line (event_with defaults (option_copied container.entry)
+            (event_as is_cleaned (event_of self.now))) }
+        ensures fit { IsTrue is_cleaned → IfErr result (λ e. e ≡ OutOfMemory) }
+    {
+        line_with(alloc, self, &self.common(), tags, container, is_cleaned)
     }
 }
 
 impl Lined for Event<'_> {
-    ghost refused = { λ e common. event_refusal (event_sharing common (event_of e)) };
+    ghost refused = { λ is_cleaned e common.
+        event_refusal (event_sharing common (event_as is_cleaned (event_of e))) };
 
-    ghost spelled = { λ e common tags. event_text (event_sharing common (event_of e)) tags };
+    ghost spelled = { λ is_cleaned e common tags.
+        event_text (event_sharing common (event_as is_cleaned (event_of e))) tags };
 
-    fn refusal_with(&self, common: &Common<'_>) -> Option<Unfit> {
-        if !any_is_free(common.host) {
-            return Some(Unfit::Host);
+    fn refusal_with(&self, common: &Common<'_>, is_cleaned: bool) -> Option<Unfit> {
+        if is_cleaned {
+            return None;
         }
-        if !any_is_free(self.key) {
-            return Some(Unfit::AggregationKey);
-        }
-        if !any_is_free(self.source) {
-            return Some(Unfit::SourceType);
-        }
-        if !tags_are_clear(common.tags) {
-            return Some(Unfit::Tags);
-        }
-        if !any_is_free(common.container) {
-            return Some(Unfit::Container);
-        }
-        None
+        self.first_unfit(common)
     }
 
     #[tactic(auto, unfolding(crate::specs::Event::event_text))]
-    fn push_to<S: PieceWriter>(&self, line: &mut S, common: &Common<'_>, tags: &str) {
+    fn push_to<S: PieceWriter>(
+        &self,
+        line: &mut S,
+        common: &Common<'_>,
+        tags: &str,
+        container: Option<&str>,
+        is_cleaned: bool,
+    ) {
         push_head(line, self.title, self.text);
-        self.push_fields(line, common, tags);
+        self.push_fields(line, common, tags, container, is_cleaned);
     }
 }

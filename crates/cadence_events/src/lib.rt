@@ -10,10 +10,12 @@
 //! - `lined`: what both have in common: optional fields, and how a line is measured and made
 //! - `refusal`: why a line was not made
 //! - `escapes`: newlines in texts, and `m:` in a message
+//! - `cleaning`: texts with an underscore in place of each separator
 //! - `fields`: how optional fields are written
 //! - `writers`: what a line is written to, piece by piece
 #![tactic(auto)]
 
+mod cleaning;
 mod escapes;
 mod event;
 mod fields;

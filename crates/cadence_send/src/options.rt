@@ -51,8 +51,9 @@ pub struct Options<'a, A: Allocator> {
     /// Whether the settings are strict, so that they refuse each text that has a separator, other than a colon after the
     /// key of a tag.
     pub is_strict: bool,
-    /// Whether the settings clean texts: then an underscore replaces each separator in a name, a tag, the prefix and the
-    /// container. This has to be set before the prefix, a tag and the container are. The settings are not strict then.
+    /// Whether the settings clean texts: then an underscore replaces each separator in a name, a tag, the prefix, the
+    /// container and the fields of an event or a service check. This has to be set before any of these is. The settings
+    /// are not strict then.
     pub is_cleaning: bool,
     /// Whether packets are printed instead of sent.
     pub is_printing: bool,
@@ -108,24 +109,30 @@ fn read_tag_for(value: &str, is_cleaned: bool) -> Option<Tag<'_>> {
     read_tag(value)
 }
 
-// Reads the message of a service check. An empty one is left out.
-fn read_message(value: &str) -> Option<Option<&str>> {
-    if value.as_bytes().contains(&b'|') {
+// Reads the message of a service check. An empty one is left out. One with a bar is refused if it is not cleaned later.
+fn read_message(value: &str, is_cleaned: bool) -> Option<Option<&str>> {
+    if !is_cleaned && value.as_bytes().contains(&b'|') {
         return None;
     }
     Some(if value.is_empty() { None } else { Some(value) })
 }
 
-// Returns these fields of an event or of a service check with the value of this option.
-fn with_field<'a>(fields: Fields<'a>, setting: Setting, value: &'a str) -> Option<Fields<'a>> {
+// Returns these fields of an event or of a service check with the value of this option, whose separators may be cleaned
+// later.
+fn with_field<'a>(
+    fields: Fields<'a>,
+    setting: Setting,
+    value: &'a str,
+    is_cleaned: bool,
+) -> Option<Fields<'a>> {
     let mut fields = fields;
     match setting {
-        Setting::Host => fields.host = Some(read_word(value)?),
-        Setting::AggregationKey => fields.key = Some(read_word(value)?),
+        Setting::Host => fields.host = Some(read_word_for(value, is_cleaned)?),
+        Setting::AggregationKey => fields.key = Some(read_word_for(value, is_cleaned)?),
         Setting::Priority => fields.priority = Some(read_priority(value)?),
-        Setting::Source => fields.source = Some(read_word(value)?),
+        Setting::Source => fields.source = Some(read_word_for(value, is_cleaned)?),
         Setting::Alert => fields.alert = Some(read_alert(value)?),
-        Setting::Message => fields.message = read_message(value)?,
+        Setting::Message => fields.message = read_message(value, is_cleaned)?,
         _ => return None,
     }
     Some(fields)
@@ -229,7 +236,9 @@ impl<'a, A: Allocator> Options<'a, A> {
             Setting::Capacity => self.capacity = read_whole(value).ok_or(refused)? as usize,
             Setting::FlushEvery => self.flush_every = Some(read_whole(value).ok_or(refused)?),
             Setting::Wait => self.wait = Some(read_whole(value).ok_or(refused)?),
-            _ => self.fields = with_field(self.fields, setting, value).ok_or(refused)?,
+            _ => {
+                self.fields = with_field(self.fields, setting, value, is_cleaned).ok_or(refused)?
+            }
         }
         Ok(())
     }

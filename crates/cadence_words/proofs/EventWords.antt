@@ -1,45 +1,49 @@
 -- The events and service checks that words ask for.
-use Rattle.std.proofs.Common.{◌≡◌, ℕ, ◌≤◌, Bor, true, List, [], ◌∷◌, map, length, Option, Some, None, Ok, Err}
-use Rattle.std.proofs.Common.{refl, sym, ap, ◌∙◌, subst, arith}
+use Rattle.std.proofs.Common.{◌≡◌, ℕ, ◌≤◌, Bor, Bool, Result, true, false, get_or, length, List, [], ◌∷◌, map, Option, Some, None, Ok, Err}
+use Rattle.std.proofs.Common.{refl, sym, ap, ap₂, ◌∙◌, subst, arith}
 use Rattle.std.specs.Prelude.{String, string_bytes, codes}
 use Rattle.std.specs.List.{AllZip, list_all}
-use Rattle.std.specs.Option.{option_copied}
+use Rattle.std.specs.Option.{option_copied, option_map}
 use Rattle.std.proofs.lemmas.Bool.{and_from}
 use Rattle.cadence_errors.specs.declared.input_error.InputError.{InputError}
 use Rattle.cadence_errors.specs.declared.input_error.InputError.TheVariants.{Unusable, OutOfMemory}
+use Rattle.cadence_events.specs.Cleaned.{check_as, event_as, message_as}
 use Rattle.cadence_events.specs.Event.{Event, event_line, event_with}
 use Rattle.cadence_events.specs.Refusals.{MakesLine, check_refusal, event_refusal, first_failed, has_no_bar}
 use Rattle.cadence_events.specs.ServiceCheck.{ServiceCheck, check_line, check_with}
 use Rattle.cadence_events.specs.declared.refusal.Unfit.{Unfit}
 use Rattle.cadence_events.specs.declared.refusal.Unfit.TheVariants as unfit
 use Rattle.cadence_events.specs.declared.service_check.ServiceStatus.{ServiceStatus}
+use Rattle.cadence_text.specs.Cleaned.{container_as as any_as, tag_as, text_as}
 use Rattle.cadence_text.specs.Record.{tag_of}
 use Rattle.cadence_text.specs.declared.line.tag.Tag.{Tag as BorrowedTag}
 use Rattle.cadence_text.specs.FreeTexts.{is_free_if_any, is_clear_tag, is_free_text}
 use Rattle.cadence_text.specs.Metric.{Tag}
+use Rattle.cadence_text.proofs.grammar.Cleaned.{tag_passes}
 use Rattle.cadence_text.proofs.grammar.FreeTexts.{clear_tag_from}
-use Rattle.cadence_words.proofs.WordByWord.{rest_of, texts, three_words}
 use Rattle.cadence_words.specs.Asked.{IsTagWord, IsWord}
-use Rattle.cadence_words.specs.Events.{IsLineOfCheck, IsLineOfEvent, NamesStatus, asked_check, asked_event, word_error_of}
-use Rattle.cadence_words.specs.Finds.{FailsAsWord}
+use Rattle.cadence_words.specs.Events.{IsLineOfCheck, IsLineOfEvent, IsLineOfNamed, IsLineOfTitled, NamesStatus, asked_check, asked_event, word_error_of}
+use Rattle.cadence_words.proofs.WordByWord.{rest_of, texts, three_words}
+use Rattle.cadence_words.specs.Commands.{first_word}
+use Rattle.cadence_words.specs.Finds.{FailsAsWord, FindsOrFails}
+use Rattle.cadence_words.specs.Lines.{tag_words_as}
+use Rattle.cadence_words.specs.declared.word_error.Part.{Part}
 use Rattle.cadence_words.specs.declared.defaults.Defaults.{Defaults}
 use Rattle.cadence_words.specs.declared.events.Fields.{Fields}
 
--- If there are at least three words, then they are three words and the others.
-pub firsts : (words : List (Bor (List ℕ))) → 3 ≤ length words
-    → (k : List ℕ) × (a : List ℕ) × (b : List ℕ) × (texts words ≡ k ∷ a ∷ b ∷ texts (rest_of words))
-firsts [] long = absurd (omega (arith, long))
-firsts (k ∷ []) long = absurd (omega (arith, long))
-firsts (k ∷ a ∷ []) long = absurd (omega (arith, long))
-firsts (k ∷ a ∷ b ∷ words) long = (k.now, a.now, b.now, three_words (k ∷ a ∷ b ∷ words) k a b long)
+-- Tags that words say are clear, also if they are cleaned.
+clear_as : (is_cleaned : Bool) (tag : Tag) → is_clear_tag tag ≡ true → is_clear_tag (tag_as is_cleaned tag) ≡ true
+clear_as true tag h = tag_passes tag
+clear_as false tag h = h
 
--- Tags that words say are clear.
-tags_clear : (words : List (List ℕ)) (tags : List Tag) → AllZip IsTagWord words tags → list_all is_clear_tag tags ≡ true
-tags_clear [] [] h = refl
-tags_clear [] (t ∷ tags) h = absurd h
-tags_clear (w ∷ words) [] h = absurd h
-tags_clear (w ∷ words) (t ∷ tags) h =
-    and_from (is_clear_tag t) (list_all is_clear_tag tags) (clear_tag_from t h.0.clear) (tags_clear words tags h.1)
+tags_clear : (is_cleaned : Bool) (words : List (List ℕ)) (tags : List Tag) → AllZip IsTagWord words tags
+    → list_all is_clear_tag (map (tag_as is_cleaned) tags) ≡ true
+tags_clear is_cleaned [] [] h = refl
+tags_clear is_cleaned [] (t ∷ tags) h = absurd h
+tags_clear is_cleaned (w ∷ words) [] h = absurd h
+tags_clear is_cleaned (w ∷ words) (t ∷ tags) h =
+    and_from (is_clear_tag (tag_as is_cleaned t)) (list_all is_clear_tag (map (tag_as is_cleaned) tags))
+    (clear_as is_cleaned t (clear_tag_from t h.0.clear)) (tags_clear is_cleaned words tags h.1)
 
 -- The event and the service check of tags that are kept in one list are those of the same tags in another one.
 pub event_of_tags : (time : Option ℕ) (f : Fields) (title text : List ℕ) (given kept : List BorrowedTag) (e : Event)
@@ -76,85 +80,116 @@ fails : (Z : Type 0) (Has : List ℕ → Type 0) (why : Option Unfit) (line : Li
 fails Z Has why line (Unusable u) h none = λ x has. unmade Z why line u h (none x has)
 fails Z Has why line OutOfMemory h none = tt
 
-module _ {Z : Type 0} (d : Defaults Z) (f : Fields) (k a b : List ℕ) (others words : List (List ℕ)) (are : words ≡ k ∷ a ∷ b ∷ others) where
-  -- If words ask for an event, then the words after the first three are its tags.
-  pub event_tags : (line : List ℕ) → IsLineOfEvent d f words line → (tags : List Tag) × AllZip IsTagWord others tags
-  event_tags line l = let h = subst (λ ws. IsLineOfEvent d f ws line) are l in (h.1, h.2)
+module _ {Z : Type 0} (d : Defaults Z) (f : Fields) (a b : List ℕ) (words : List (List ℕ)) where
+  -- If there is a line of an event, then the words are its tags.
+  pub event_tags : (line : List ℕ) → IsLineOfTitled d f a b words line → (tags : List Tag) × AllZip IsTagWord words tags
+  event_tags line (tags, each, is) = (tags, each)
 
   -- Which text of an event is refused doesn't depend on the tags that its words say.
-  same_event : (tags tags' : List Tag) → AllZip IsTagWord others tags → AllZip IsTagWord others tags'
-      → event_refusal (asked_event d.time f a b tags) ≡ event_refusal (asked_event d.time f a b tags')
-  same_event tags tags' h h' =
-      ap (λ free. first_failed ((is_free_if_any (option_copied f.host), unfit.Host) ∷ (is_free_if_any (option_copied f.key), unfit.AggregationKey)
-      ∷ (is_free_if_any (option_copied f.source), unfit.SourceType) ∷ (free, unfit.Tags) ∷ (true, unfit.Container) ∷ []))
-      (tags_clear others tags h ∙ sym (tags_clear others tags' h'))
+  same_event : (k : Bool) (tags tags' : List Tag) → AllZip IsTagWord words tags → AllZip IsTagWord words tags'
+      → event_refusal (event_as k (asked_event d.time f a b tags)) ≡ event_refusal (event_as k (asked_event d.time f a b tags'))
+  same_event k tags tags' h h' =
+      ap (λ free. first_failed ((is_free_if_any (any_as k (option_copied f.host)), unfit.Host)
+      ∷ (is_free_if_any (any_as k (option_copied f.key)), unfit.AggregationKey) ∷ (is_free_if_any (any_as k (option_copied f.source)), unfit.SourceType)
+      ∷ (free, unfit.Tags) ∷ (is_free_if_any (any_as k None), unfit.Container) ∷ []))
+      (tags_clear k words tags h ∙ sym (tags_clear k words tags' h'))
 
-  module _ (tags : List Tag) (each : AllZip IsTagWord others tags) (e : Event) (asked : e ≡ asked_event d.time f a b tags) (line : List ℕ) where
-    -- The line that was made is that of the event that the words ask for.
-    pub event_found : {Y : Type 0} (text : String Y) → k ≡ codes "event" → MakesLine (event_refusal e) line (Ok text)
-        → line ≡ event_line (event_with d.settings.tags d.settings.container e) → IsLineOfEvent d f words (string_bytes text)
-    event_found text kind h is =
-        let m = made (event_refusal e) line text h in
-        subst (λ ws. IsLineOfEvent d f ws (string_bytes text)) (sym are) (
-          kind,
+  module _ (tags : List Tag) (each : AllZip IsTagWord words tags) (e : Event) (asked : e ≡ asked_event d.time f a b tags)
+      (k : Bool) (cleans : k ≡ d.settings.cleaned) (line : List ℕ) where
+    -- The line that was made is that of the event that is asked for.
+    pub event_found : {Y : Type 0} (text : String Y) → MakesLine (event_refusal (event_as k e)) line (Ok text)
+        → line ≡ event_line (event_with d.settings.tags d.settings.container (event_as k e)) → IsLineOfTitled d f a b words (string_bytes text)
+    event_found text h is =
+        let m = made (event_refusal (event_as k e)) line text h in (
           tags,
           each,
           (
-            sym (ap event_refusal asked) ∙ m.0,
-            m.1 ∙ is ∙ ap (λ x. event_line (event_with d.settings.tags d.settings.container x)) asked,
+            sym (ap₂ (λ c x. event_refusal (event_as c x)) cleans asked) ∙ m.0,
+            m.1 ∙ is ∙ ap₂ (λ c x. event_line (event_with d.settings.tags d.settings.container (event_as c x))) cleans asked,
           ),
         )
 
-    -- If no line was made, then the words ask for no event that can stand in a line, unless memory ran out.
-    pub event_fails : (Y : Type 0) (error : InputError Unfit) → MakesLine {Z = Y} (event_refusal e) line (Err error)
-        → FailsAsWord (IsLineOfEvent d f words) (word_error_of error)
-    event_fails Y error h = fails Y (IsLineOfEvent d f words) (event_refusal e) line error h (λ x l.
-        let has = subst (λ ws. IsLineOfEvent d f ws x) are l in
-        ap event_refusal asked ∙ same_event tags has.1 each has.2 ∙ has.3.0)
+    -- If no line was made, then no event that is asked for can stand in a line, unless memory ran out.
+    pub event_fails : (Y : Type 0) (error : InputError Unfit) → MakesLine {Z = Y} (event_refusal (event_as k e)) line (Err error)
+        → FailsAsWord (IsLineOfTitled d f a b words) (word_error_of error)
+    event_fails Y error h = fails Y (IsLineOfTitled d f a b words) (event_refusal (event_as k e)) line error h (λ x (others, too, (none, is)).
+        ap₂ (λ c x. event_refusal (event_as c x)) cleans asked ∙ same_event d.settings.cleaned tags others each too ∙ none)
 
-  -- If words ask for a service check, then the second one is a name, the third one names a status, and the others are its
-  -- tags.
-  pub check_named : (line : List ℕ) → IsLineOfCheck d f words line → IsWord a
-  check_named line l = let h = subst (λ ws. IsLineOfCheck d f ws line) are l in h.1
+  -- If there is a line of a service check, then the first text is a name, the second one names a status, and the words are
+  -- its tags.
+  pub check_named : (line : List ℕ) → IsLineOfNamed d f a b words line → IsWord a
+  check_named line (named, s, is_status, tags, each, is) = named
 
-  pub check_status : (line : List ℕ) → IsLineOfCheck d f words line → (s : ServiceStatus) × NamesStatus b s
-  check_status line l = let h = subst (λ ws. IsLineOfCheck d f ws line) are l in (h.2, h.3)
+  pub check_status : (line : List ℕ) → IsLineOfNamed d f a b words line → (s : ServiceStatus) × NamesStatus b s
+  check_status line (named, s, is_status, tags, each, is) = (s, is_status)
 
-  pub check_tags : (line : List ℕ) → IsLineOfCheck d f words line → (tags : List Tag) × AllZip IsTagWord others tags
-  check_tags line l = let h = subst (λ ws. IsLineOfCheck d f ws line) are l in (h.4, h.5)
+  pub check_tags : (line : List ℕ) → IsLineOfNamed d f a b words line → (tags : List Tag) × AllZip IsTagWord words tags
+  check_tags line (named, s, is_status, tags, each, is) = (tags, each)
 
   -- Which text of a service check is refused doesn't depend on the status, nor on the tags that its words say.
-  same_check : (s s' : ServiceStatus) (tags tags' : List Tag) → AllZip IsTagWord others tags → AllZip IsTagWord others tags'
-      → check_refusal (asked_check d.time f a s tags) ≡ check_refusal (asked_check d.time f a s' tags')
-  same_check s s' tags tags' h h' =
-      ap (λ free. first_failed ((is_free_text a, unfit.Name) ∷ (is_free_if_any (option_copied f.host), unfit.Host) ∷ (free, unfit.Tags)
-      ∷ (true, unfit.Container) ∷ (has_no_bar (option_copied f.message), unfit.Message) ∷ []))
-      (tags_clear others tags h ∙ sym (tags_clear others tags' h'))
+  same_check : (k : Bool) (s s' : ServiceStatus) (tags tags' : List Tag) → AllZip IsTagWord words tags → AllZip IsTagWord words tags'
+      → check_refusal (check_as k (asked_check d.time f a s tags)) ≡ check_refusal (check_as k (asked_check d.time f a s' tags'))
+  same_check k s s' tags tags' h h' =
+      ap (λ free. first_failed ((is_free_text (text_as k a), unfit.Name) ∷ (is_free_if_any (any_as k (option_copied f.host)), unfit.Host)
+      ∷ (free, unfit.Tags) ∷ (is_free_if_any (any_as k None), unfit.Container)
+      ∷ (has_no_bar (option_map (message_as k) (option_copied f.message)), unfit.Message) ∷ []))
+      (tags_clear k words tags h ∙ sym (tags_clear k words tags' h'))
 
-  module _ (s : ServiceStatus) (tags : List Tag) (each : AllZip IsTagWord others tags) (c : ServiceCheck)
-      (asked : c ≡ asked_check d.time f a s tags) (line : List ℕ) where
-    -- The line that was made is that of the service check that the words ask for.
-    pub check_found : {Y : Type 0} (text : String Y) → k ≡ codes "check" → IsWord a → NamesStatus b s
-        → MakesLine (check_refusal c) line (Ok text) → line ≡ check_line (check_with d.settings.tags d.settings.container c)
-        → IsLineOfCheck d f words (string_bytes text)
-    check_found text kind word named h is =
-        let m = made (check_refusal c) line text h in
-        subst (λ ws. IsLineOfCheck d f ws (string_bytes text)) (sym are) (
-          kind,
+  module _ (s : ServiceStatus) (tags : List Tag) (each : AllZip IsTagWord words tags) (c : ServiceCheck)
+      (asked : c ≡ asked_check d.time f a s tags) (k : Bool) (cleans : k ≡ d.settings.cleaned) (line : List ℕ) where
+    -- The line that was made is that of the service check that is asked for.
+    pub check_found : {Y : Type 0} (text : String Y) → IsWord a → NamesStatus b s → MakesLine (check_refusal (check_as k c)) line (Ok text)
+        → line ≡ check_line (check_with d.settings.tags d.settings.container (check_as k c)) → IsLineOfNamed d f a b words (string_bytes text)
+    check_found text word named h is =
+        let m = made (check_refusal (check_as k c)) line text h in (
           word,
           s,
           named,
           tags,
           each,
           (
-            sym (ap check_refusal asked) ∙ m.0,
-            m.1 ∙ is ∙ ap (λ x. check_line (check_with d.settings.tags d.settings.container x)) asked,
+            sym (ap₂ (λ c x. check_refusal (check_as c x)) cleans asked) ∙ m.0,
+            m.1 ∙ is ∙ ap₂ (λ c x. check_line (check_with d.settings.tags d.settings.container (check_as c x))) cleans asked,
           ),
         )
 
-    -- If no line was made, then the words ask for no service check that can stand in a line, unless memory ran out.
-    pub check_fails : (Y : Type 0) (error : InputError Unfit) → MakesLine {Z = Y} (check_refusal c) line (Err error)
-        → FailsAsWord (IsLineOfCheck d f words) (word_error_of error)
-    check_fails Y error h = fails Y (IsLineOfCheck d f words) (check_refusal c) line error h (λ x l.
-        let has = subst (λ ws. IsLineOfCheck d f ws x) are l in
-        ap check_refusal asked ∙ same_check s has.2 tags has.4 each has.5 ∙ has.6.0)
+    -- If no line was made, then no service check that is asked for can stand in a line, unless memory ran out.
+    pub check_fails : (Y : Type 0) (error : InputError Unfit) → MakesLine {Z = Y} (check_refusal (check_as k c)) line (Err error)
+        → FailsAsWord (IsLineOfNamed d f a b words) (word_error_of error)
+    check_fails Y error h = fails Y (IsLineOfNamed d f a b words) (check_refusal (check_as k c)) line error h (λ x (word, other, named, others, too, (none, is)).
+        ap₂ (λ c x. check_refusal (check_as c x)) cleans asked ∙ same_check d.settings.cleaned s other tags others each too ∙ none)
+
+-- At least three words are three words and the others.
+pub three_parts : (words : List (Bor (List ℕ))) (n v : Bor (List ℕ)) → 3 ≤ length words
+    → texts words ≡ (get_or words 0 n).now ∷ (get_or words 1 n).now ∷ (get_or words 2 v).now ∷ texts (rest_of words)
+three_parts words n v long = three_words words n n v long
+
+-- What the words after the first one say is what all words of a command line say.
+module _ {Z C : Type 0} (d : Defaults Z) (f : Fields) (k a b : List ℕ) (others : List (List ℕ)) (view : C → List ℕ) where
+  titled_whole : (r : Result C (InputError Part)) → k ≡ codes "event"
+      → FindsOrFails (IsLineOfTitled d f a b (tag_words_as d.settings.cleaned others)) view r
+      → FindsOrFails (IsLineOfEvent d f (k ∷ a ∷ b ∷ others)) view r
+  titled_whole (Ok c) kind h = (kind, h)
+  titled_whole (Err (Unusable why)) kind h = λ line (same, titled). h line titled
+  titled_whole (Err OutOfMemory) kind h = tt
+
+  named_whole : (r : Result C (InputError Part)) → k ≡ codes "check"
+      → FindsOrFails (IsLineOfNamed d f (text_as d.settings.cleaned a) b (tag_words_as d.settings.cleaned others)) view r
+      → FindsOrFails (IsLineOfCheck d f (k ∷ a ∷ b ∷ others)) view r
+  named_whole (Ok c) kind h = (kind, h)
+  named_whole (Err (Unusable why)) kind h = λ line (same, named). h line named
+  named_whole (Err OutOfMemory) kind h = tt
+
+  module _ (words : List (List ℕ)) (are : words ≡ k ∷ a ∷ b ∷ others) (cleans : Bool) (is : d.settings.cleaned ≡ cleans) where
+    pub event_whole : (r : Result C (InputError Part)) → first_word words ≡ codes "event"
+        → FindsOrFails (IsLineOfTitled d f a b (tag_words_as cleans others)) view r → FindsOrFails (IsLineOfEvent d f words) view r
+    event_whole r first h =
+        subst (λ ws. FindsOrFails (IsLineOfEvent d f ws) view r) (sym are)
+        (titled_whole r (ap first_word (sym are) ∙ first) (subst (λ c. FindsOrFails (IsLineOfTitled d f a b (tag_words_as c others)) view r) (sym is) h))
+
+    pub check_whole : (r : Result C (InputError Part)) → first_word words ≡ codes "check"
+        → FindsOrFails (IsLineOfNamed d f (text_as cleans a) b (tag_words_as cleans others)) view r
+        → FindsOrFails (IsLineOfCheck d f words) view r
+    check_whole r first h =
+        subst (λ ws. FindsOrFails (IsLineOfCheck d f ws) view r) (sym are)
+        (named_whole r (ap first_word (sym are) ∙ first) (subst (λ c. FindsOrFails (IsLineOfNamed d f (text_as c a) b (tag_words_as c others)) view r) (sym is) h))

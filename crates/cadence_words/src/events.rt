@@ -1,20 +1,22 @@
 //! Makes the lines of events and service checks from the words that ask for them.
-ghost use Rattle.std.specs.Prelude.{◌≡◌, codes, map, string_bytes};
+ghost use Rattle.std.specs.Prelude.{◌≡◌, codes, false, map, string_bytes, true};
 ghost use Rattle.std.specs.List.{AllZip};
 ghost use Rattle.cadence_events.specs.Event.{alert_text, event_of, priority_text};
 ghost use Rattle.cadence_events.specs.ServiceCheck.{check_of};
+ghost use Rattle.cadence_text.specs.Cleaned.{cleaned_text};
 ghost use Rattle.cadence_text.specs.Record.{tag_of};
 ghost use Rattle.cadence_value.specs.Finds.{Finds};
 ghost use Rattle.cadence_words.specs.Asked.{IsTagWord};
 ghost use Rattle.cadence_words.specs.Commands.{first_word};
-ghost use Rattle.cadence_words.specs.Events.{IsLineOfCheck, IsLineOfEvent, NamesStatus, asked_check, asked_event, word_error_of};
+ghost use Rattle.cadence_words.specs.Events.{IsLineOfCheck, IsLineOfEvent, IsLineOfNamed, IsLineOfTitled, NamesStatus, asked_check, asked_event, word_error_of};
 ghost use Rattle.cadence_words.specs.Finds.{FindsOrFails};
 
 use crate::defaults::Defaults;
+use crate::tags::{Tags, lend_words};
 use crate::word_error::{Part, WordError};
 use crate::words::{is_word, read_tag};
 use cadence_events::{AlertType, Event, LineError, Priority, ServiceCheck, ServiceStatus};
-use cadence_text::line::Tag;
+use cadence_text::line::{Tag, cleaned};
 use std::alloc::Allocator;
 
 /// What the options of a command line add to an event or to a service check.
@@ -155,13 +157,54 @@ fn check_with<'a>(
     }
 }
 
-// Returns the line of an event. The words are `event`, a title, a text and any tags. The command line adds its fields,
-// its time, its default tags and its container, but no prefix and no rate.
-pub(crate) fn line_of_event<'a, A: Allocator + Clone>(
+// Returns the line of the event with this title, this text and the tags that the words say. The command line adds its
+// fields, its time, its default tags and its container, but no prefix and no rate.
+fn line_of_titled<A: Allocator + Clone>(
     alloc: &A,
     defaults: &Defaults<A>,
-    fields: &Fields<'a>,
-    words: &[&'a str],
+    fields: &Fields<'_>,
+    title: &str,
+    text: &str,
+    words: &[&str],
+) -> Result<String<A>, WordError>
+    ensures { FindsOrFails (IsLineOfTitled defaults.now fields.now title.now text.now
+        (map (λ w. w.now) words.now)) (λ line. string_bytes line) result }
+{
+    let tags = read_tags(alloc.clone()?, words)?;
+    let event = event_with(defaults.time, fields, title, text, &tags);
+    let settings = &defaults.settings;
+    let (default_tags, container) = (settings.default_tags_text(), settings.default_container());
+    let is_cleaned = settings.is_cleaned();
+    match event.line_as(alloc.clone()?, default_tags, container, is_cleaned) {
+        Ok(line) => Ok(line),
+        Err(error) => Err(error_of(error)),
+    }
+}
+
+// Returns the line that `line_of_titled` returns for the cleaned words of the tags.
+#[cold]
+fn line_of_cleaned_titled<A: Allocator + Clone>(
+    alloc: &A,
+    defaults: &Defaults<A>,
+    fields: &Fields<'_>,
+    title: &str,
+    text: &str,
+    words: &[&str],
+) -> Result<String<A>, WordError>
+    ensures { FindsOrFails (IsLineOfTitled defaults.now fields.now title.now text.now
+        (map (cleaned_text true) (map (λ w. w.now) words.now))) (λ line. string_bytes line) result }
+{
+    let copies = Tags::Words(words).cleaned(alloc)?;
+    let lent = lend_words(alloc.clone()?, &copies)?;
+    line_of_titled(alloc, defaults, fields, title, text, &lent)
+}
+
+// Returns the line of an event. The words are `event`, a title, a text and any tags.
+pub(crate) fn line_of_event<A: Allocator + Clone>(
+    alloc: &A,
+    defaults: &Defaults<A>,
+    fields: &Fields<'_>,
+    words: &[&str],
 ) -> Result<String<A>, WordError>
     requires { first_word (map (λ w. w.now) words.now) ≡ codes "event" }
     ensures { FindsOrFails (IsLineOfEvent defaults.now fields.now (map (λ w. w.now) words.now))
@@ -170,23 +213,68 @@ pub(crate) fn line_of_event<'a, A: Allocator + Clone>(
     let [_, title, text, tags @ ..] = words else {
         return Err(WordError::Unusable(Part::EventWords));
     };
-    let tags = read_tags(alloc.clone()?, tags)?;
-    let event = event_with(defaults.time, fields, title, text, &tags);
-    let default_tags = defaults.settings.default_tags_text();
-    let container = defaults.settings.default_container();
-    match event.line_with(alloc.clone()?, default_tags, container) {
+    if !defaults.settings.is_cleaned() {
+        return line_of_titled(alloc, defaults, fields, title, text, tags);
+    }
+    line_of_cleaned_titled(alloc, defaults, fields, title, text, tags)
+}
+
+// Returns the line of the service check with this name, the status that a word names and the tags that the words say. The
+// command line adds what it adds to an event.
+fn line_of_named<A: Allocator + Clone>(
+    alloc: &A,
+    defaults: &Defaults<A>,
+    fields: &Fields<'_>,
+    name: &str,
+    status: &str,
+    words: &[&str],
+) -> Result<String<A>, WordError>
+    ensures { FindsOrFails (IsLineOfNamed defaults.now fields.now name.now status.now
+        (map (λ w. w.now) words.now)) (λ line. string_bytes line) result }
+{
+    if !is_word(name) {
+        return Err(WordError::Unusable(Part::Name));
+    }
+    let Some(status) = read_status(status) else {
+        return Err(WordError::Unusable(Part::Status));
+    };
+    let tags = read_tags(alloc.clone()?, words)?;
+    let check = check_with(defaults.time, fields, name, status, &tags);
+    let settings = &defaults.settings;
+    let (default_tags, container) = (settings.default_tags_text(), settings.default_container());
+    let is_cleaned = settings.is_cleaned();
+    match check.line_as(alloc.clone()?, default_tags, container, is_cleaned) {
         Ok(line) => Ok(line),
         Err(error) => Err(error_of(error)),
     }
 }
 
-// Returns the line of a service check. The words are `check`, a name, a status and any tags. The command line adds what
-// it adds to an event.
-pub(crate) fn line_of_check<'a, A: Allocator + Clone>(
+// Returns the line that `line_of_named` returns for the cleaned name and the cleaned words of the tags.
+#[cold]
+fn line_of_cleaned_named<A: Allocator + Clone>(
     alloc: &A,
     defaults: &Defaults<A>,
-    fields: &Fields<'a>,
-    words: &[&'a str],
+    fields: &Fields<'_>,
+    name: &str,
+    status: &str,
+    words: &[&str],
+) -> Result<String<A>, WordError>
+    ensures { FindsOrFails (IsLineOfNamed defaults.now fields.now (cleaned_text false name.now)
+        status.now (map (cleaned_text true) (map (λ w. w.now) words.now)))
+        (λ line. string_bytes line) result }
+{
+    let name = cleaned(alloc.clone()?, name, false)?;
+    let copies = Tags::Words(words).cleaned(alloc)?;
+    let lent = lend_words(alloc.clone()?, &copies)?;
+    line_of_named(alloc, defaults, fields, &name, status, &lent)
+}
+
+// Returns the line of a service check. The words are `check`, a name, a status and any tags.
+pub(crate) fn line_of_check<A: Allocator + Clone>(
+    alloc: &A,
+    defaults: &Defaults<A>,
+    fields: &Fields<'_>,
+    words: &[&str],
 ) -> Result<String<A>, WordError>
     requires { first_word (map (λ w. w.now) words.now) ≡ codes "check" }
     ensures { FindsOrFails (IsLineOfCheck defaults.now fields.now (map (λ w. w.now) words.now))
@@ -195,18 +283,8 @@ pub(crate) fn line_of_check<'a, A: Allocator + Clone>(
     let [_, name, status, tags @ ..] = words else {
         return Err(WordError::Unusable(Part::CheckWords));
     };
-    if !is_word(name) {
-        return Err(WordError::Unusable(Part::Name));
+    if !defaults.settings.is_cleaned() {
+        return line_of_named(alloc, defaults, fields, name, status, tags);
     }
-    let Some(status) = read_status(status) else {
-        return Err(WordError::Unusable(Part::Status));
-    };
-    let tags = read_tags(alloc.clone()?, tags)?;
-    let check = check_with(defaults.time, fields, name, status, &tags);
-    let default_tags = defaults.settings.default_tags_text();
-    let container = defaults.settings.default_container();
-    match check.line_with(alloc.clone()?, default_tags, container) {
-        Ok(line) => Ok(line),
-        Err(error) => Err(error_of(error)),
-    }
+    line_of_cleaned_named(alloc, defaults, fields, name, status, tags)
 }

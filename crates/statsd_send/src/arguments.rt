@@ -42,8 +42,9 @@ lost until the socket takes one again [by default it waits for ever]";
 
 const STRICT: &str = "tests the tags of the environment for separators once more";
 
-const CLEAN: &str = "sends an underscore for each separator in a name or a tag, also of
---prefix, --tag, --container and the environment, in place of refusing it";
+const CLEAN: &str = "sends an underscore for each separator in a name, a tag or a field
+of an event or a check, also of --prefix, --tag, --container and the
+environment, in place of refusing it";
 
 const TARGET: &str = "Target";
 

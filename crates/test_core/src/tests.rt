@@ -2,7 +2,7 @@
 //!
 //! - `error`: texts and kinds of errors.
 //! - `decimal`, `value`: numbers and values, and their texts.
-//! - `event`: lines of events and of service checks.
+//! - `event`: lines of events and of service checks. `cleaned_event`: those of cleaned ones.
 //! - `line`: records of metrics. `draft`: lines that are made in a buffer.
 //! - `io`: packers of lines and their writers.
 //! - `queue`: the shared queue, and the end mark of its worker.
@@ -13,6 +13,7 @@
 //! - `audited`: the audited queue.
 
 mod audited;
+mod cleaned_event;
 mod decimal;
 mod draft;
 mod error;

@@ -76,8 +76,9 @@ class StatsClient(Metrics):
 
     If `clean` is set, no call is refused for such a character: each of them in a name, in a tag or in a container is sent as
     an underscore, also in the prefix, the tags and the container of the client. The value of a tag keeps its colons: that of
-    a dict or a pair, and of a text such as "page:home" what comes after its first colon. The text of a set, an event and a
-    service check are not cleaned: they are refused as before. The constructor raises a ValueError if `strict` is set too.
+    a dict or a pair, and of a text such as "page:home" what comes after its first colon. In an event and in a service check
+    each text for which the call would be refused is cleaned. The text of a set is not: it is refused as before. The
+    constructor raises a ValueError if `strict` is set too.
 
     If `telemetry` is a prefix, the client sends its own counts: a flush first keeps a counter for each of `packets_sent`,
     `packets_dropped`, `packets_refused` and `lines_refused` (`sent`, `dropped`, `refused` and `bad` of `counts`) that has

@@ -121,7 +121,8 @@ impl<A: Allocator + Clone, S: MetricSink, H: ErrorHandler> StatsdClientBuilder<A
     /// Makes a client that cleans texts, in place of a strict one: it sends an underscore in place of each colon, comma, bar
     /// and newline in a key, a tag or a container, so that no text of a call can make or change another metric. Colons
     /// stay in the text of a tag with a key, as in `url:http://x`, because the first colon ends the key. The prefix and the
-    /// defaults are cleaned too. The text of `send_metric` is sent as it is, and a member of a set is never cleaned.
+    /// defaults are cleaned too, and so is each text for which an event or a service check would be refused. The text of
+    /// `send_metric` is sent as it is, and a member of a set is never cleaned.
     pub fn with_cleaned_texts(mut self) -> Self
         ensures { AddsDefault (λ _. true) with_cleaned_texts self result }
     {

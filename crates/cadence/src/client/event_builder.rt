@@ -25,7 +25,7 @@ pub type EventBuilder<'m, 'c, C = StatsdClient> = LinedBuilder<'m, 'c, Event<'m>
 impl<A: Allocator + Clone, S: MetricSink, H: ErrorHandler> StatsdClient<A, S, H> {
     /// Returns the builder of an event, to which tags and other options can be added before it is sent. A title has no
     /// prefix. A newline in the title or in the text is escaped. Any other text of the call with a separator is refused,
-    /// also by a client that isn't strict.
+    /// also by a client that isn't strict, or cleaned by a client that cleans texts.
     pub fn event<'a>(&'a self, title: &'a str, text: &'a str) -> EventBuilder<'a, 'a, Self>
         ensures { IsBegun (plain_event title.now text.now) self.now (built_event result) }
     {

@@ -112,12 +112,14 @@ impl<'m, 'c, L: Lined, C: CallBackend> LinedBuilder<'m, 'c, L, C> {
     }
 
     /// Sends the line. The client's default tags come before the builder's own tags. If the builder has no container, the
-    /// line has the client's default container.
+    /// line has the client's default container. A client that cleans texts sends an underscore in place of each separator
+    /// for which a text of the call would be refused.
     ///
     /// # Errors
-    /// If texts of the call can't stand in the line, an error of kind `InvalidInput` that names the first of them
-    /// (`refusal` of `Event` and of `ServiceCheck` in `cadence_events`). The client's defaults are not tested. If memory
-    /// runs out, `OutOfMemory`. Nothing is sent in both cases. Any other error is the sink's, as `MetricError::Sink`.
+    /// If texts of the call can't stand in the line, and the client doesn't clean them, an error of kind `InvalidInput`
+    /// that names the first of them (`refusal` of `Event` and of `ServiceCheck` in `cadence_events`). The client's
+    /// defaults are not tested. If memory runs out, `OutOfMemory`. Nothing is sent in both cases. Any other error is the
+    /// sink's, as `MetricError::Sink`.
     pub fn try_send(self) -> MetricResult<()>
         ensures { SendsBuilt C.settings C.line_may_get L.refused L.spelled (built self.entry)
             result }
@@ -135,14 +137,15 @@ impl<'m, 'c, L: Lined, C: CallBackend> LinedBuilder<'m, 'c, L, C> {
             tags: &tags,
             ..common
         };
+        let settings = client.client_settings();
+        let is_cleaned = settings.is_cleaned();
         // Before memory is taken, so that the texts alone decide.
-        if let Some(why) = own.refusal_with(&common) {
+        if let Some(why) = own.refusal_with(&common, is_cleaned) {
             return Err(MetricError::from(LineError::Unusable(why)));
         }
-        let settings = client.client_settings();
         let (defaults, container) = (settings.default_tags_text(), settings.default_container());
         let alloc = tags.allocator().clone()?;
-        let line = line_with(alloc, &own, &common, defaults, container)?;
+        let line = line_with(alloc, &own, &common, defaults, container, is_cleaned)?;
         client.send_metric(&Line { text: &line })
     }
 

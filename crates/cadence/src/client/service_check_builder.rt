@@ -24,7 +24,8 @@ pub type ServiceCheckBuilder<'m, 'c, C = StatsdClient> = LinedBuilder<'m, 'c, Se
 impl<A: Allocator + Clone, S: MetricSink, H: ErrorHandler> StatsdClient<A, S, H> {
     /// Returns the builder of a service check, to which tags and other options can be added before it is sent. A name has
     /// no prefix. A newline in the message and an `m:` in it are escaped. A message with a bar is refused, and so is any
-    /// other text of the call with a separator, also by a client that isn't strict.
+    /// other text of the call with a separator, also by a client that isn't strict. A client that cleans texts sends an
+    /// underscore in place of the bar or separator.
     pub fn service_check<'a>(
         &'a self,
         name: &'a str,

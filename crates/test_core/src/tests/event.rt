@@ -7,12 +7,12 @@ use std::test::Fail;
 use test_tools::{RefusingAllocator, each_refused};
 
 // An event and its line, or the text that can't stand in a line.
-type EventRow = (Event<'static>, Result<&'static str, Unfit>);
+pub(super) type EventRow = (Event<'static>, Result<&'static str, Unfit>);
 
 // A service check and its line, or the text that can't stand in a line.
-type CheckRow = (ServiceCheck<'static>, Result<&'static str, Unfit>);
+pub(super) type CheckRow = (ServiceCheck<'static>, Result<&'static str, Unfit>);
 
-const PROD: Tag<'static> = Tag {
+pub(super) const PROD: Tag<'static> = Tag {
     key: Some("env"),
     text: "prod",
 };
@@ -22,7 +22,7 @@ const BETA: Tag<'static> = Tag {
     text: "beta",
 };
 
-const PLAIN: Event<'static> = Event {
+pub(super) const PLAIN: Event<'static> = Event {
     title: "a",
     text: "b",
     time: None,
@@ -35,7 +35,7 @@ const PLAIN: Event<'static> = Event {
     container: None,
 };
 
-const WEB: ServiceCheck<'static> = ServiceCheck {
+pub(super) const WEB: ServiceCheck<'static> = ServiceCheck {
     name: "web",
     status: ServiceStatus::Ok,
     time: None,
@@ -158,7 +158,7 @@ const CHECKS: &[CheckRow] = &[
 ];
 
 // Returns whether a call returned what its row has. It may only be refused because memory runs out.
-fn is_made<A: Allocator>(
+pub(super) fn is_made<A: Allocator>(
     made: Result<String<A>, LineError>,
     expected: &Result<&'static str, Unfit>,
 ) -> Result<bool, Fail> {

@@ -1,43 +1,21 @@
-use Rattle.std.proofs.Common.{rules, ◌≡◌, ◌∙◌, Err, ap, map, sym}
-use Rattle.std.specs.List.{AllZip}
-use Rattle.cadence_events.specs.ServiceCheck.{check_line, check_of, check_with}
-use Rattle.cadence_text.specs.Line.{tags_field}
-use Rattle.cadence_text.specs.Record.{tag_of}
-use Rattle.cadence_words.specs.Asked.{IsTagWord}
-use Rattle.cadence_words.specs.Commands.{first_word}
-use Rattle.cadence_words.specs.Events.{IsLineOfCheck}
-use Rattle.cadence_words.proofs.EventWords.{check_fails, check_found, check_of_tags, check_tags, firsts}
-use Rattle.cadence_words.proofs.WordByWord.{hands_on, rest_of, texts, three_words}
+use Rattle.std.proofs.Common.{◌≡◌, ◌∙◌, sym, true, false}
+use Rattle.std.specs.Prelude.{string_bytes}
+use Rattle.cadence_words.proofs.EventWords.{check_whole, three_parts}
+use Rattle.cadence_words.proofs.WordByWord.{rest_of, texts}
 use Rattle.cadence_words.proofs.events.line_of_check.Goals as goal
 
-pub returns-in_err-tags : goal.returns-in_err-tags
-returns-in_err-tags g c =
-    let words = c.args.words.now in
-    let is : c.from_residual-in_err-tags.result ≡ Err c.in_err-tags.field-0.0 = search rules in
-    hands_on (IsLineOfCheck c.args.defaults.now c.args.fields.now (texts words)) _ (AllZip IsTagWord (texts (rest_of words))) _
-    c.in_err-tags.field-0.0 is (check_tags c.args.defaults.now c.args.fields.now _ _ _ (texts (rest_of words)) (texts words)
-    (firsts words c.in-len3-up.len_at_least).3) c.in_err-tags.ensures
-
-pub returns-in-Ok : goal.returns-in-Ok
-returns-in-Ok g c =
+pub returns-then-not-is_cleaned : goal.returns-then-not-is_cleaned
+returns-then-not-is_cleaned g c =
     let words = c.args.words.now in
     let d = c.args.defaults.now in
-    let e = check_of c.check_with-check.result in
-    let are = three_words words c.check_with-check.result.name _ _ c.in-len3-up.len_at_least in
-    let is : c.default_tags_text-default_tags.result.now ≡ tags_field d.settings.tags = c.default_tags_text-default_tags.ensures in
-    check_found d c.args.fields.now _ _ _ (texts (rest_of words)) (texts words) are c.in-Some.status (map tag_of c.in_ok-tags.tags.items) c.in_ok-tags.ensures e
-    (check_of_tags d.time c.args.fields.now _ _ _ _ e c.check_with-check.ensures c.deref.ensures.value) _ c.in-Ok.line
-    (ap first_word (sym are) ∙ c.requires) (search rules) c.in-Some.ensures c.in-Ok.ensures.line
-    (c.line_with.ensures.defaults d.settings.tags is
-    ∙ ap (λ x. check_line (check_with d.settings.tags x e)) c.default_container-container.ensures)
+    let is : d.settings.cleaned ≡ false = sym c.is_cleaned.ensures.cleaned ∙ c.if-not-is_cleaned.true in
+    check_whole d c.args.fields.now _ _ _ (texts (rest_of words)) (λ line. string_bytes line) (texts words)
+    (three_parts words _ _ c.in-len3-up.len_at_least) false is c.line_of_named.result c.requires c.line_of_named.ensures
 
 pub returns : goal.returns
 returns g c =
     let words = c.args.words.now in
     let d = c.args.defaults.now in
-    let e = check_of c.check_with-check.result in
-    let are = three_words words c.check_with-check.result.name _ c.check_with-check.result.name c.in-len3-up.len_at_least in
-    rw c.error_of.ensures (check_fails d c.args.fields.now _ _ _ (texts (rest_of words)) (texts words) are c.in-Some.status (map tag_of c.in_ok-tags.tags.items)
-    c.in_ok-tags.ensures e
-    (check_of_tags d.time c.args.fields.now _ _ _ _ e c.check_with-check.ensures c.deref.ensures.value) _ _ c.in-Err.error
-    c.in-Err.ensures.line)
+    let is : d.settings.cleaned ≡ true = sym c.is_cleaned.ensures.cleaned ∙ c.if-not-is_cleaned.false in
+    check_whole d c.args.fields.now _ _ _ (texts (rest_of words)) (λ line. string_bytes line) (texts words)
+    (three_parts words _ _ c.in-len3-up.len_at_least) true is c.line_of_cleaned_named.result c.requires c.line_of_cleaned_named.ensures

@@ -170,7 +170,49 @@ const ROWS: &[(News, Wanted)] = &[
     ),
 ];
 
-// How many requests the client takes.
+// What a client that cleans texts sends.
+const CLEANED_ROWS: &[(News, Wanted)] = &[
+    (
+        News::Event(Event {
+            title: "a|b",
+            text: "c:d",
+            host: Some("web|1"),
+            key: Some("a:b"),
+            source: Some(","),
+            tags: &[
+                Tag {
+                    key: Some("k|"),
+                    text: "v:w,x",
+                },
+                Tag {
+                    key: None,
+                    text: "a:b\n",
+                },
+            ],
+            container: Some("a:b"),
+            ..PLAIN
+        }),
+        (
+            Ok("_e{3,3}:a|b|c:d|h:web_1|k:a_b|s:_|#image:nginx:1.25,c,k_:v:w_x,a_b_|c:a_b"),
+            2,
+        ),
+    ),
+    (
+        News::Event(PLAIN),
+        (Ok("_e{1,1}:a|b|#image:nginx:1.25,c|c:id"), 1),
+    ),
+    (
+        News::Check(ServiceCheck {
+            name: "a|b",
+            host: Some("\n"),
+            message: Some("m:|no|"),
+            ..WEB
+        }),
+        (Ok("_sc|a_b|0|h:_|#image:nginx:1.25,c|c:id|m:m\\:_no_"), 1),
+    ),
+];
+
+// How many requests the client takes. One that cleans texts takes one more, for its prefix.
 const REQUESTS_OF_CLIENT: u64 = 8;
 
 // Makes a client with default tags and a container, whose sink takes this line.
@@ -178,8 +220,13 @@ fn make_client(
     heap: &RefusingAllocator<Global>,
     line: &'static str,
     calls: Arc<AtomicU64>,
+    is_cleaned: bool,
 ) -> MetricResult<Client> {
-    StatsdClient::builder(heap.clone()?, "p", OneLineSink { line, calls })
+    let mut builder = StatsdClient::builder(heap.clone()?, "p", OneLineSink { line, calls });
+    if is_cleaned {
+        builder = builder.with_cleaned_texts();
+    }
+    builder
         .with_tag("image", "nginx:1.25")
         .with_tag_value("c")
         .with_container_id("id")
@@ -296,13 +343,14 @@ fn makes_client_and_sends(
     alloc: Global,
     heap: &RefusingAllocator<Global>,
     row: &(News, Wanted),
+    is_cleaned: bool,
 ) -> Result<bool, Fail> {
     let calls = make_counter(alloc)?;
     let line = match row.1.0 {
         Ok(line) => line,
         Err(_) => "",
     };
-    match make_client(heap, line, calls.clone()?) {
+    match make_client(heap, line, calls.clone()?, is_cleaned) {
         Ok(client) => {
             let sent = send(&client, &row.0);
             is_wanted(alloc, sent, &row.1, calls.load(Ordering::SeqCst))
@@ -316,9 +364,21 @@ fn events_and_service_checks_have_defaults(rt: HostRuntime) -> Result<(), Fail> 
     let alloc = rt.alloc();
     for row in ROWS {
         let granted = each_refused(alloc, |heap: RefusingAllocator<Global>| {
-            makes_client_and_sends(alloc, &heap, row)
+            makes_client_and_sends(alloc, &heap, row, false)
         })?;
         assert_eq!(rt; granted, Some(REQUESTS_OF_CLIENT.wrapping_add(row.1.1)));
+    }
+    Ok(())
+}
+
+#[test]
+fn texts_of_events_and_service_checks_are_cleaned(rt: HostRuntime) -> Result<(), Fail> {
+    let alloc = rt.alloc();
+    for row in CLEANED_ROWS {
+        let granted = each_refused(alloc, |heap: RefusingAllocator<Global>| {
+            makes_client_and_sends(alloc, &heap, row, true)
+        })?;
+        assert_eq!(rt; granted, Some(REQUESTS_OF_CLIENT.wrapping_add(1).wrapping_add(row.1.1)));
     }
     Ok(())
 }
