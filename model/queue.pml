@@ -80,6 +80,10 @@ byte submitted, drained, dropped;
 bool stopped;
 byte handles = CALLERS;
 
+/* The mark of a full queue: whether a caller has found it full since texts were last taken. It is changed under the lock,
+   and callers that give way read it without the lock. */
+bool marked;
+
 /* The texts that the worker has taken and not yet handed on, and the end mark, which has a lock of its own. */
 chan lent = [ROOM] of { byte };
 bool ended;
@@ -318,7 +322,7 @@ inline NOTIFY_ALL(condvar) {
 
 /* Asserts what has to be true whenever the queue's lock is free, and a further claim of the thread that had the
    lock. */
-#define CHECK(claim) assert(IS_WITHIN); assert(len(ring) == submitted - drained - dropped); assert(claim)
+#define CHECK(claim) assert(IS_WITHIN); assert(len(ring) == submitted - drained - dropped); assert(!marked || IS_FULL); assert(claim)
 
 /* Makes these checks and releases the queue's lock. The checks read only the fields under the lock. */
 #if KIT
@@ -335,7 +339,7 @@ inline RELEASE(claim) {
 /* The last step of a call that changed the queue. */
 #define RETURN() under_way--; assert(!IS_NEGLECTED)
 
-#if FAULT == 5
+#if FAULT == 5 || FAULT == 25
 /* a queue that had room before the lock was taken isn't tested again under the lock */
 #define LACKS_ROOM (was_full && IS_FULL && (!DROP_OLDEST || len(ring) == 0))
 #else
@@ -344,20 +348,8 @@ inline RELEASE(claim) {
 
 #define IS_TRUE_ANSWER ((answer == STOPPED) == stopped && (answer != FULL || IS_FULL))
 
-/* `SharedQueue::offer`. A try of the lock that fails changes nothing, so `acquire`, which tries it a few times before
-   it sleeps for it, is LOCK here. A caller that finds the queue full gives way once (`SharedQueue::enter`). */
-inline OFFER(text) {
-#if FAULT == 5
-  was_full = IS_FULL;
-#endif
-  LOCK(QUEUE);
-#if FAULT == 20
-  idle = IS_IDLE;
-#endif
-  if
-  :: IS_FULL && !stopped -> RELEASE(true); LOCK(QUEUE)
-  :: else
-  fi;
+/* The second part of `SharedQueue::offer`, under the lock. */
+inline ADD(text) {
 #if FAULT != 20
   idle = IS_IDLE;
 #endif
@@ -385,6 +377,41 @@ inline OFFER(text) {
 #endif
   if
   :: idle && answer == OK -> NOTIFY_ALL(CHANGED)
+  :: else
+  fi
+}
+
+/* `SharedQueue::offer`. A try of the lock that fails changes nothing, so `acquire`, which tries it a few times before
+   it sleeps for it, is LOCK here. A caller that finds the queue full sets the mark and gives way (`SharedQueue::enter`).
+   If the mark is still set then, it is refused for what it found. It reads the mark several times, and here once, at any
+   moment. */
+inline OFFER(text) {
+#if FAULT == 5
+  was_full = IS_FULL;
+#elif FAULT == 25
+  was_full = true;
+#endif
+  LOCK(QUEUE);
+#if FAULT == 20
+  idle = IS_IDLE;
+#endif
+  if
+  :: IS_FULL && !stopped ->
+     atomic { marked = true; if :: LACKS_ROOM -> answer = FULL :: else fi };
+     RELEASE(answer != FULL || IS_TRUE_ANSWER);
+     if
+     :: answer == FULL && marked
+     :: else ->
+        LOCK(QUEUE);
+#if FAULT == 25
+        was_full = false;
+#endif
+        answer = 0
+     fi
+  :: else
+  fi;
+  if
+  :: answer == 0 -> ADD(text)
   :: else
   fi
 }
@@ -437,8 +464,11 @@ proctype Stopper() {
   assert(len(owed) == 0 && len(ring) == 0 && len(lent) == 0)
 }
 
-/* Moves the oldest texts to the worker, as many as it has room for. */
+/* Clears the mark, and moves the oldest texts to the worker, as many as it has room for. */
 inline MOVE() {
+#if FAULT != 26
+  marked = false;
+#endif
   do
   :: atomic { len(lent) < ROOM && len(ring) > 0 -> ring ? text; drained++; lent ! text; text = 0 }
   :: else -> break

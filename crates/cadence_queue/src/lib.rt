@@ -8,11 +8,13 @@
 //! - `recorded_queue`: a queue with a record of the texts that it accepted and of those that were taken
 //! - `shared_queue`: a recorded queue under a lock
 //! - `under_lock`: what lies under that lock, and what a call shows of the step that it made there
+//! - `entering`: how a caller takes that lock to add a text, and gives way to the worker if the queue is full
 //! - `taking`: how texts are taken out of a shared queue, one by one, or several at a time by a taker
 //! - `named_queue`: what is known of a shared queue whose logs have names
 //! - `latch`: a mark that one thread sets and that others wait for
 #![tactic(auto)]
 
+mod entering;
 mod latch;
 mod named_queue;
 mod policy;

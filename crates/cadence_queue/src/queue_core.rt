@@ -183,8 +183,8 @@ impl<T, A: Allocator> QueueCore<T, A> {
         }
     }
 
-    // Returns whether the queue is full and has no text to drop for another.
-    fn lacks_room(&self) -> bool
+    /// Returns whether the queue is full and has no text to drop for another.
+    pub(super) fn lacks_room(&self) -> bool
         ensures { result ≡ lacks_room self.now }
     {
         self.is_full() && (self.policy == QueuePolicy::Refuse || self.texts.len() == 0)

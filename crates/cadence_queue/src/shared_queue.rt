@@ -12,27 +12,15 @@ ghost use Rattle.cadence_queue.specs.SharedQueue.{bound_of, rule_of};
 ghost use Rattle.cadence_queue.specs.Shown.{IsRefused, accepted_after, after_of, before_of, log_after};
 ghost use Rattle.cadence_stage.specs.OwnLog.{name_of};
 
+use super::entering::FullMark;
 use super::recorded_queue::{QueueLogs, RecordedQueue};
 use super::under_lock::{QueueStep, UnderLock};
 use crate::{QueueError, QueuePolicy};
 use cadence_errors::{MetricResult, SinkError};
-use cadence_stage::{Logs, Seen, Unnamed, acquire, spin};
+use cadence_stage::{Logs, Seen, Unnamed};
 use std::alloc::{AllocError, Allocator, Global};
 use std::snapshot::Snapshot;
-use std::sync::{Condvar, Mutex, MutexGuard, Wait};
-use std::thread;
-
-// The two numbers here were chosen by measurement. They decide how fast a caller is, and nothing else: no contract speaks
-// of them.
-
-/// How many turns of an empty loop a caller waits if it finds the queue full. With more turns the queue accepts more
-/// lines, but a burst takes longer.
-const TURNS_TO_GIVE_WAY: u32 = 20;
-
-/// How many callers in a row find the queue full until one of them yields, which lets other threads run. If none yielded,
-/// the worker might get no processor while as many callers as there are processors keep calling, and the queue would stay
-/// full. Not each caller yields, because on a busy machine a yield takes milliseconds.
-const LATE_FOR_A_YIELD: u32 = 16;
+use std::sync::{Condvar, Mutex, Wait};
 
 /// A queue of texts under a lock, which threads share by reference. Each call takes the lock and does one step of a
 /// `QueueCore`; a `Taker` does several takes in a row. What lies under the lock is a `RecordedQueue`, so whenever the
@@ -49,6 +37,8 @@ pub struct SharedQueue<T, A: Allocator = Global, M = T, N: Logs = Unnamed> {
     pub(super) changed: Condvar,
     capacity: Option<usize>,
     policy: QueuePolicy,
+    // whether a caller has found the queue full since texts were last taken
+    pub(super) full: FullMark,
 }
 
 impl<T, A: Allocator + Clone> SharedQueue<T, A> {
@@ -109,6 +99,7 @@ impl<T, A: Allocator, M, N: Logs> SharedQueue<T, A, M, N> {
             changed: Condvar::new(),
             capacity,
             policy,
+            full: FullMark::new(),
         }
     }
 
@@ -136,8 +127,8 @@ impl<T, A: Allocator, M, N: Logs> SharedQueue<T, A, M, N> {
 }
 
 impl<T, A: Allocator + Clone, M: Drop, N: Logs> SharedQueue<T, A, M, N> {
-    /// Adds a text at the end, and wakes the threads that wait for one. It doesn't wait for room: if the queue is full, it
-    /// gives way to the worker once, for a moment, and then decides.
+    /// Adds a text at the end, and wakes the threads that wait for one. It doesn't wait for room: if the queue is full, the
+    /// caller gives way to the worker once, for a moment, and then tries again if texts were taken or one can be dropped.
     ///
     /// Returns the text that a full queue dropped for the new one, if it dropped one. The errors are
     /// `ChannelDisconnected` if the queue is stopped, `ChannelFull` if it is full and drops no text, and `OutOfMemory`.
@@ -162,10 +153,16 @@ impl<T, A: Allocator + Clone, M: Drop, N: Logs> SharedQueue<T, A, M, N> {
         ensures accepts { IfOk result.0 (λ dropped.
             Accepts (before_of result.1) text dropped (after_of result.1)) }
         ensures refuses { IfErr result.0 (λ e. IsRefused result.1 e.0 × (e.1 ≡ text)) }
+        ensures last { IfOk result.0 (λ _. (earlier : List T)
+            × (accepted_after result.1 ≡ earlier ++ text ∷ [])) }
+        ensures named { ForSome N.logs (λ names. log_after result.1 ≡ names.accepted) }
         ensures bounded { IfErr result.0 (λ _. IsBounded (before_of result.1).capacity →
             IsTrue (is_open (before_of result.1)) → ⊥) }
     {
-        let mut state = self.enter(rt);
+        let mut state = match self.enter(rt) {
+            Ok(state) => state,
+            Err(step) => return (Err((QueueError::Full, text)), step),
+        };
         let idle = state.queue.core().is_idle();
         let before = Snapshot::of(state.queue.core());
         let answer = state.queue.add(text);
@@ -208,7 +205,10 @@ impl<T, A: Allocator + Clone, M: Drop, N: Logs> SharedQueue<T, A, M, N> {
             OnErr result.0 ((older : Option M) × (error : AllocError)
             × F.post make older (Err error)) }
     {
-        let mut state = self.enter(rt);
+        let mut state = match self.enter(rt) {
+            Ok(state) => state,
+            Err(step) => return (Err(QueueError::Full), step),
+        };
         let idle = state.queue.core().is_idle();
         let spare = state.spare();
         let before = Snapshot::of(state.queue.core());
@@ -227,38 +227,6 @@ impl<T, A: Allocator + Clone, M: Drop, N: Logs> SharedQueue<T, A, M, N> {
 }
 
 impl<T, A: Allocator, M, N: Logs> SharedQueue<T, A, M, N> {
-    // Takes the lock for a caller that adds a text. If the queue is full, the caller gives way once.
-    fn enter(&self, rt: &impl Wait) -> MutexGuard<'_, UnderLock<T, A, M, N>> {
-        let state = acquire(&self.state, rt);
-        if !state.queue.core().is_full() {
-            return state;
-        }
-        self.enter_late(rt, state)
-    }
-
-    // Releases the lock of a full queue for a moment, so that the worker can take it, and then takes it again. A caller
-    // that asks a full queue again and again would otherwise keep the lock from the worker, which has to empty the
-    // queue. It is a function of its own, so that `enter` is short enough to be inlined.
-    #[cold]
-    fn enter_late<'a>(
-        &'a self,
-        rt: &impl Wait,
-        mut state: MutexGuard<'a, UnderLock<T, A, M, N>>,
-    ) -> MutexGuard<'a, UnderLock<T, A, M, N>> {
-        if state.queue.core().is_stopped() {
-            return state;
-        }
-        state.late = state.late.wrapping_add(1);
-        let yields = state.late % LATE_FOR_A_YIELD == 0;
-        drop(state);
-        if yields {
-            thread::yield_now();
-        } else {
-            spin(TURNS_TO_GIVE_WAY);
-        }
-        acquire(&self.state, rt)
-    }
-
     // Wakes the threads that wait for a text, if one came to an idle queue. While a queue isn't idle, no thread waits.
     fn wake(&self, has_come: bool) {
         if has_come {

@@ -48,7 +48,9 @@ impl<T, A: Allocator, M: Drop> SharedQueue<T, A, M> {
     pub fn try_take_shown(&self, rt: &impl Wait) -> (Taken<T>, QueueStep<T, A>)
         ensures { IsTaken (before_of result.1) result.0 (after_of result.1) }
     {
-        acquire(&self.state, rt).take(&mut Hand::new())
+        let mut state = acquire(&self.state, rt);
+        self.begin_take(&mut state);
+        state.take(&mut Hand::new())
     }
 
     /// Takes the oldest text. If there is none, it waits for one, unless the queue is stopped. `None` is the end: the
@@ -67,7 +69,9 @@ impl<T, A: Allocator, M: Drop> SharedQueue<T, A, M> {
         ensures taken { IsTaken (before_of result.1) result.0 (after_of result.1) }
         ensures text { result.0 ≢ Empty }
     {
-        self.sleep(rt).take(&mut Hand::new())
+        let mut state = self.sleep(rt);
+        self.begin_take(&mut state);
+        state.take(&mut Hand::new())
     }
 }
 

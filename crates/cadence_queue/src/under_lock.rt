@@ -4,11 +4,13 @@
 //! A contract can't name what lies under a lock. So such a call returns, beside its answer, the states between which the
 //! queue made its step. They exist in proofs only: they take no bytes, and a `Snapshot` can only be made of a queue that
 //! is there.
-ghost use Rattle.std.specs.Prelude.{◌≡◌, ◌≢◌, false};
-ghost use Rattle.cadence_queue.specs.Queue.{IsTaken, is_idle};
+ghost use Rattle.std.specs.Option.{ForSome};
+ghost use Rattle.std.specs.Prelude.{◌≡◌, ◌≢◌, IfSome, false};
+ghost use Rattle.cadence_queue.specs.Queue.{IsTaken, is_idle, is_open};
 ghost use Rattle.cadence_queue.specs.declared.queue_core.Taken.TheVariants.{Empty};
+ghost use Rattle.cadence_queue.specs.declared.queue_error.QueueError.TheVariants.{Full};
 ghost use Rattle.cadence_queue.specs.RecordedQueue.{core_of};
-ghost use Rattle.cadence_queue.specs.Shown.{accepted_after, after_of, before_of, log_after};
+ghost use Rattle.cadence_queue.specs.Shown.{IsRefused, accepted_after, after_of, before_of, log_after};
 
 use super::recorded_queue::RecordedQueue;
 use super::taking::hand::Hand;
@@ -26,17 +28,40 @@ pub struct UnderLock<T, A: Allocator, M, N: Logs = Unnamed> {
     pub(super) queue: RecordedQueue<T, A, N>,
     // `None` until the queue has a taker
     pub(super) spares: Option<TextRing<M, A>>,
-    // how many callers found the queue full since a taker last took texts, modulo 2^32
+    // how many callers found the queue full since texts were last taken, modulo 2^32
     pub(super) late: u32,
 }
 
+impl<T, A: Allocator, M, N: Logs> UnderLock<T, A, M, N> {
+    /// Shows how the queue refuses a text, if it is full and drops no text for another: a step that changes nothing. Returns
+    /// `None` if it is stopped, or if it accepts a text.
+    pub(super) fn refusal(&mut self) -> Option<QueueStep<T, A>>
+        ensures refused { IfSome result (λ step.
+            IsRefused step Full × (is_open (before_of step) ≡ false)) }
+        ensures named { IfSome result (λ step.
+            ForSome N.logs (λ names. log_after step ≡ names.accepted)) }
+        ensures found { IfSome result (λ step. before_of step ≡ core_of self.old.queue) }
+        ensures same { core_of self.new.queue ≡ core_of self.old.queue }
+    {
+        if self.queue.core().is_stopped() || !self.queue.core().lacks_room() {
+            return None;
+        }
+        let before = Snapshot::of(self.queue.core());
+        let accepted = self.queue.accepted();
+        let after = Snapshot::of(self.queue.core());
+        Some(QueueStep {
+            before,
+            after,
+            accepted,
+        })
+    }
+}
+
 impl<T, A: Allocator, M: Drop, N: Logs> UnderLock<T, A, M, N> {
-    /// Exchanges the spares for the texts that a taker is done with, if those are more. It takes no memory. No caller counts
-    /// as late any more.
+    /// Exchanges the spares for the texts that a taker is done with, if those are more. It takes no memory.
     pub(super) fn take_back(&mut self, done: &mut TextRing<M, A>)
         ensures { self.new.queue ≡ self.old.queue }
     {
-        self.late = 0;
         if let Some(spares) = &mut self.spares {
             if done.len() > spares.len() {
                 mem::swap(done, spares);

@@ -239,6 +239,7 @@ impl<T, A: Allocator, M: Drop, N: Logs> Taker<'_, T, A, M, N> {
             × (has_ended self.new ≡ has_ended self.old) }
         ensures moved { AreMoved result self.new.texts.items }
     {
+        self.queue.begin_take(state);
         state.take_back(&mut self.done);
         let before = Snapshot::of(state.queue.core());
         state.queue.take_some(&mut self.hand, &mut self.texts);

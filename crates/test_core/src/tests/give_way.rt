@@ -1,6 +1,6 @@
-//! A caller that finds a queue full gives way to the worker for a moment: it releases the lock, spins, and takes it
-//! again. So a refusal by a full queue takes longer than one by a queue that is stopped, which is the same call without
-//! that.
+//! A caller that finds a queue full gives way to the worker for a moment: it releases the lock, spins, and looks whether
+//! texts are taken. So a refusal by a full queue takes longer than one by a queue that is stopped, which is the same call
+//! without that. Callers that find the queue full after many others spin for a shorter time, until texts are taken.
 use cadence_queue::SharedQueue;
 use std::io;
 use std::sync::Wait;
@@ -21,6 +21,15 @@ fn time_of_round<R: Wait + Clock>(rt: &R, queue: &SharedQueue<char>) -> io::Resu
     begun.elapsed(rt)
 }
 
+// Asserts that the first time is longer than the second one, by a sixth at least.
+fn assert_is_longer(one: Duration, other: Duration) -> Result<(), Fail> {
+    let (one, other) = (one.as_nanos(), other.as_nanos());
+    if one.wrapping_mul(6) <= other.wrapping_mul(7) {
+        return Err(Fail::new(format_args!("{one} and {other} nanoseconds")));
+    }
+    Ok(())
+}
+
 #[test]
 fn a_caller_gives_way_at_a_full_queue(rt: HostRuntime) -> Result<(), Fail> {
     let full = SharedQueue::new(rt.alloc(), Some(0))?;
@@ -28,12 +37,22 @@ fn a_caller_gives_way_at_a_full_queue(rt: HostRuntime) -> Result<(), Fail> {
     stopped.stop(&rt);
     let (mut at_full, mut at_stopped) = (Duration::MAX, Duration::MAX);
     for _ in 0..ROUNDS {
+        let _ = full.try_take(&rt);
         at_full = at_full.min(time_of_round(&rt, &full)?);
         at_stopped = at_stopped.min(time_of_round(&rt, &stopped)?);
     }
-    let (at_full, at_stopped) = (at_full.as_nanos(), at_stopped.as_nanos());
-    // a sixth more at least
-    let is_longer = at_full.wrapping_mul(6) > at_stopped.wrapping_mul(7);
-    assert!(rt; is_longer, "{at_full} and {at_stopped} nanoseconds");
-    Ok(())
+    assert_is_longer(at_full, at_stopped)
+}
+
+#[test]
+fn a_take_lets_callers_wait_longer_again(rt: HostRuntime) -> Result<(), Fail> {
+    let queue = SharedQueue::new(rt.alloc(), Some(0))?;
+    let (mut after_a_take, mut after_many) = (Duration::MAX, Duration::MAX);
+    for _ in 0..ROUNDS {
+        let _ = queue.try_take(&rt);
+        after_a_take = after_a_take.min(time_of_round(&rt, &queue)?);
+        let _ = time_of_round(&rt, &queue)?;
+        after_many = after_many.min(time_of_round(&rt, &queue)?);
+    }
+    assert_is_longer(after_a_take, after_many)
 }
