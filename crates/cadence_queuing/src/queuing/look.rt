@@ -13,7 +13,7 @@ ghost use Rattle.cadence_stage.specs.Kept.{IsStep};
 ghost use Rattle.cadence_stage.specs.Past.{lines_in, taken_in};
 
 use super::look_of::Look;
-use super::sink::{QueuingMetricSink, copy_line};
+use super::sink::QueuingMetricSink;
 use super::worker::Passed;
 use crate::fed_sink::FedSink;
 use cadence_errors::SinkError;
@@ -114,12 +114,10 @@ impl<S: Stage, R: Wait + Drop, A: Allocator + Clone, J: Names> QueuingMetricSink
             × ((before : List (String A)) × (text : String A)
             × (receipt.items ≡ before ++ text ∷ []) × (string_bytes text ≡ line.now))) }
     {
-        let alloc = &self.alloc;
-        let queue = &self.shared.queue;
-        let (answer, step) = queue.offer(&self.rt, |older| copy_line(older, alloc, line));
+        let (answer, step) = self.queue_copy(line);
         match answer {
-            Ok((_dropped, _copy)) => Ok(step.into_accepted()),
-            Err(error) => Err(queue.why(error).into()),
+            Ok(_copy) => Ok(step.into_accepted()),
+            Err(error) => Err(self.shared.queue.why(error).into()),
         }
     }
 }

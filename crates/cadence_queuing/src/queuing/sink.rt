@@ -1,17 +1,21 @@
 //! The queuing sink, as callers see it: a handle of the queue.
-ghost use Rattle.std.specs.Prelude.{◌≡◌, IfOk, string_bytes};
+ghost use Rattle.std.specs.Option.{ForSome};
+ghost use Rattle.std.specs.Prelude.{◌≡◌, ◌∷◌, [], ◌++◌, IfErr, IfOk, List, Option, String, string_bytes};
 ghost use Rattle.std.specs.Arc.{arc_value};
 ghost use Rattle.cadence_queue.specs.Answers.{IsCopyQueued};
+ghost use Rattle.cadence_queue.specs.Queue.{Accepts};
+ghost use Rattle.cadence_queue.specs.Shown.{IsRefused, accepted_after, after_of, before_of, log_after};
 ghost use Rattle.cadence_queuing.specs.Queuing.{IsQueuingAnswer, queue_capacity, wrapped_sink};
 ghost use Rattle.cadence_stage.specs.Answered.{IsAnswered};
 
-use super::worker::{Passed, Shared};
+use super::worker::{Passed, Shared, WIDEST_KEPT};
 use cadence_errors::SinkError;
 use cadence_flow::MetricSink;
 use cadence_flow::stats::SinkStats;
-use cadence_queue::{Latch, QueueStep};
+use cadence_queue::{Latch, QueueError, QueueStep};
 use cadence_stage::{AnsweringSink, Logs, OneCall, Unnamed, emit_by};
 use std::alloc::{AllocError, Allocator, Global};
+use std::snapshot::Snapshot;
 use std::sync::{Arc, Wait};
 
 /// A sink that queues each line for a worker thread, which hands the lines to the wrapped sink, in order.
@@ -82,7 +86,7 @@ impl<S: Drop, R: Wait + Drop, A: Allocator, N: Logs> QueuingMetricSink<S, R, A, 
 }
 
 // Copies a line, into the memory of an older one if that is wide enough.
-pub(super) fn copy_line<A: Allocator + Clone>(
+fn copy_line<A: Allocator + Clone>(
     older: Option<String<A>>,
     alloc: &A,
     line: &str,
@@ -99,6 +103,74 @@ pub(super) fn copy_line<A: Allocator + Clone>(
     }
 }
 
+impl<S: Drop, R: Wait + Drop, A: Allocator + Clone, N: Logs> QueuingMetricSink<S, R, A, N> {
+    /// Queues a copy of a line, and shows the step. Returns the copy, in proofs only.
+    #[inline(always)]
+    pub(super) fn queue_copy(
+        &self,
+        line: &str,
+    ) -> (
+        Result<Snapshot<String<A>>, QueueError>,
+        QueueStep<String<A>, A>,
+    )
+        ensures copy { IfOk result.0 (λ copy. string_bytes copy.value ≡ line.now) }
+        ensures accepts { IfOk result.0 (λ copy. (dropped : Option (String A))
+            × Accepts (before_of result.1) copy.value dropped (after_of result.1)) }
+        ensures refuses { IfErr result.0 (λ e. IsRefused result.1 e) }
+        ensures last { IfOk result.0 (λ copy. (earlier : List (String A))
+            × (accepted_after result.1 ≡ earlier ++ copy.value ∷ [])) }
+        ensures named { ForSome N.logs (λ names. log_after result.1 ≡ names.accepted) }
+    {
+        if line.len() > WIDEST_KEPT {
+            return self.queue_long(line);
+        }
+        let alloc = &self.alloc;
+        let (answer, step) = self
+            .shared
+            .queue
+            .offer(&self.rt, |older| copy_line(older, alloc, line));
+        match answer {
+            Ok((_dropped, copy)) => (Ok(copy), step),
+            Err(error) => (Err(error), step),
+        }
+    }
+
+    // Queues a copy of a long line, as `queue_copy` does. No older line has enough memory for it, so the copy is made before
+    // the lock is taken, and freed after that if the queue refuses it. If there is no memory for the copy, the state of
+    // the queue still decides which error comes first. It is a function of its own, so that the way of other lines is short.
+    #[inline(never)]
+    fn queue_long(
+        &self,
+        line: &str,
+    ) -> (
+        Result<Snapshot<String<A>>, QueueError>,
+        QueueStep<String<A>, A>,
+    )
+        ensures copy { IfOk result.0 (λ copy. string_bytes copy.value ≡ line.now) }
+        ensures accepts { IfOk result.0 (λ copy. (dropped : Option (String A))
+            × Accepts (before_of result.1) copy.value dropped (after_of result.1)) }
+        ensures refuses { IfErr result.0 (λ e. IsRefused result.1 e) }
+        ensures last { IfOk result.0 (λ copy. (earlier : List (String A))
+            × (accepted_after result.1 ≡ earlier ++ copy.value ∷ [])) }
+        ensures named { ForSome N.logs (λ names. log_after result.1 ≡ names.accepted) }
+    {
+        let queue = &self.shared.queue;
+        let Ok(text) = copy_line(None, &self.alloc, line) else {
+            let (answer, step) = queue.offer(&self.rt, |_older| Err(AllocError));
+            return match answer {
+                Ok(_) => unreachable!(),
+                Err(error) => (Err(error), step),
+            };
+        };
+        let copy = Snapshot::of(&text);
+        let (answer, step) = queue.submit_shown(&self.rt, text);
+        match answer {
+            Ok(_dropped) => (Ok(copy), step),
+            Err((error, _text)) => (Err(error), step),
+        }
+    }
+}
+
 impl<S: Drop, R: Wait + Drop, A: Allocator + Clone, N: Logs> AnsweringSink
     for QueuingMetricSink<S, R, A, N> {
     type Receipt = QueueStep<String<A>, A>;
@@ -110,13 +182,11 @@ impl<S: Drop, R: Wait + Drop, A: Allocator + Clone, N: Logs> AnsweringSink
     // Without this hint and that of `emit`, a line of `bench queue 1 20` may take 65 instructions more.
     #[inline(always)]
     fn emit_line(&self, line: &str, fault: &mut SinkError) -> (Option<usize>, Self::Receipt) {
-        let alloc = &self.alloc;
-        let queue = &self.shared.queue;
-        let (answer, step) = queue.offer(&self.rt, |older| copy_line(older, alloc, line));
+        let (answer, step) = self.queue_copy(line);
         match answer {
-            Ok((_dropped, _copy)) => (Some(line.len()), step),
+            Ok(_copy) => (Some(line.len()), step),
             Err(error) => {
-                *fault = queue.why(error).into();
+                *fault = self.shared.queue.why(error).into();
                 (None, step)
             }
         }
@@ -127,13 +197,15 @@ impl<S: Drop, R: Wait + Drop, A: Allocator + Clone, N: Logs> AnsweringSink
 ///
 /// The errors are `ChannelDisconnected` if the queue is stopped, `ChannelFull` if as many lines wait as its capacity,
 /// and `OutOfMemory`, in this order; nothing is queued then. A caller that finds the queue full gives way to the worker
-/// once and then tries again. That takes less than a microsecond, but each sixteenth such caller lets other threads run,
-/// which may take milliseconds on a busy machine. It never waits for the wrapped sink. Under `DropOldest`, a full queue
-/// with a capacity above 0 drops its oldest line instead of returning an error, and doesn't call the handler.
+/// once, and then tries again if the worker has taken lines. That takes at most two microseconds, but each sixteenth such
+/// caller lets other threads run, which may take milliseconds on a busy machine. It never waits for the wrapped sink.
+/// Under `DropOldest`, a full queue with a capacity above 0 drops its oldest line instead of returning an error, and
+/// doesn't call the handler.
 ///
 /// An accepted line requests memory at most once, apart from the growth of an unbounded queue: if the worker has handed
-/// on a line with enough memory, the new line is copied into that. The first two errors request no memory. `flush`
-/// flushes the wrapped sink and doesn't wait for the queue. `stats` returns the counts of the wrapped sink, and
+/// on a line with enough memory, the new line is copied into that. A line of more than 512 bytes is copied before the
+/// lock is taken: it requests memory once, also if it is refused. For other lines the first two errors request none.
+/// `flush` flushes the wrapped sink and doesn't wait for the queue. `stats` returns the counts of the wrapped sink, and
 /// `dropped_lines` adds `dropped` to the number of the wrapped sink.
 impl<S: MetricSink, R: Wait + Drop, A: Allocator + Clone> MetricSink
     for QueuingMetricSink<S, R, A> {

@@ -24,7 +24,7 @@ use std::thread;
 use std::time::{Clock, Duration, Instant};
 
 /// The largest capacity in bytes of a line whose memory goes back to the queue, for a later line to be copied into.
-const WIDEST_KEPT: usize = 512;
+pub(super) const WIDEST_KEPT: usize = 512;
 
 /// What the handles and the worker share. The lock of the queue is free while the sink works.
 #[derive(Drop)]

@@ -116,42 +116,50 @@ fn a_stage_may_refuse_in_the_middle(rt: HostRuntime) -> Result<(), Fail> {
     Ok(())
 }
 
-// Makes a queue and emits a line. Returns whether there was memory for that.
+// Makes a queue and emits two lines, of which the second one is copied before the lock is taken. Returns whether there was
+// memory for that.
 fn emits<R: Runtime, J: Names + Send + Sync + 'static>(
     rt: &R,
-    heap: Heap,
+    given: (Heap, &str),
     logs: WorkerLogs<Heap>,
     fed: FedLogs<Heap>,
 ) -> Result<bool, Fail>
     requires worker { names_of logs ≡ J.names }
     requires sink { (fed.fed.name ≡ J.names.fed) × (fed.from.name ≡ J.names.taken) }
 {
+    let (heap, long) = given;
+    let (granted, requests) = (heap.left(), heap.clone()?);
     let builder = QueuingMetricSinkBuilder::new();
     let Ok((receiver, queue)) = make_queue::<R, Heap, J>(rt, (heap, None), builder, logs, fed)
     else {
         return Ok(false);
     };
-    let emitted = queue.emit_seen("a:1|c");
+    let emitted = (queue.emit_seen("a:1|c"), queue.emit_seen(long));
     let mut receipt = queue.accepted();
     let (_look, flushed) = queue.stop_and_flush(&mut receipt);
-    let all = emitted.is_ok() && flushed.is_ok();
+    if emitted.0.is_err() || emitted.1.is_err() || flushed.is_err() {
+        return Ok(false);
+    }
+    // the countdown wraps below 0 if a request of the spy is refused
+    let all = requests.left() <= granted;
     if all {
-        assert_messages(&receiver, &["a:1|c\n"])?;
+        assert_messages(&receiver, &["a:1|c\n", long])?;
     }
     Ok(all)
 }
 
 // The same with logs of its own.
-fn emits_alone<R: Runtime>(rt: &R, heap: Heap) -> Result<bool, Fail> {
+fn emits_alone<R: Runtime>(rt: &R, heap: Heap, long: &str) -> Result<bool, Fail> {
     let (logs, fed) = WorkerLogs::begin();
-    emits::<R, Brand>(rt, heap, logs, fed)
+    emits::<R, Brand>(rt, (heap, long), logs, fed)
 }
 
 #[test]
 fn memory_may_be_refused(rt: HostRuntime) -> Result<(), Fail> {
+    let long = "b".repeat(rt.alloc(), 600)?;
     let granted: Result<Option<u64>, Fail> = each_refused(
         rt.alloc(),
-        |heap| emits_alone(&rt, heap),
+        |heap| emits_alone(&rt, heap, &long),
     );
     assert!(rt; granted?.is_some());
     Ok(())
