@@ -11,7 +11,7 @@ use super::shared_queue::SharedQueue;
 use super::under_lock::{QueueStep, UnderLock};
 use cadence_stage::{Logs, acquire, spin};
 use std::alloc::Allocator;
-use std::sync::atomic::{AtomicU64, Ordering};
+use std::sync::atomic::{AtomicBool, Ordering};
 use std::sync::{MutexGuard, Wait};
 use std::thread;
 
@@ -38,32 +38,25 @@ const LATE_FOR_A_YIELD: u32 = 16;
 /// under the lock. It is only a hint: a caller that gives way reads it, and takes the lock again only if it was cleared.
 #[derive(Drop)]
 pub struct FullMark {
-    // 1 if a caller has found the queue full, and 0 if not
-    state: AtomicU64,
+    is_set: AtomicBool,
 }
 
 impl FullMark {
     /// Makes a mark that is not set.
     pub(super) fn new() -> FullMark {
         FullMark {
-            state: AtomicU64::new(0),
+            is_set: AtomicBool::new(false),
         }
     }
 
     fn is_set(&self) -> bool {
-        self.state.load(Ordering::SeqCst) != 0
+        self.is_set.load(Ordering::SeqCst)
     }
 
-    // Sets the mark. One that is set isn't written again, because other callers are reading it.
-    fn set(&self) {
-        if !self.is_set() {
-            self.state.store(1, Ordering::SeqCst);
-        }
-    }
-
-    fn clear(&self) {
-        if self.is_set() {
-            self.state.store(0, Ordering::SeqCst);
+    // Sets or clears the mark. It is written only if it changes, because callers that give way are reading it.
+    fn put(&self, is_set: bool) {
+        if self.is_set() != is_set {
+            self.is_set.store(is_set, Ordering::SeqCst);
         }
     }
 
@@ -125,7 +118,7 @@ impl<T, A: Allocator, M, N: Logs> SharedQueue<T, A, M, N> {
         let refusal = state.refusal();
         state.late = state.late.wrapping_add(1);
         let late = state.late;
-        self.full.set();
+        self.full.put(true);
         drop(state);
         let is_cleared = self.full.give_way(late);
         match refusal {
@@ -140,6 +133,6 @@ impl<T, A: Allocator, M, N: Logs> SharedQueue<T, A, M, N> {
         ensures { state.new.queue ≡ state.old.queue }
     {
         state.late = 0;
-        self.full.clear();
+        self.full.put(false);
     }
 }

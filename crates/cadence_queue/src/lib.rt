@@ -11,11 +11,9 @@
 //! - `entering`: how a caller takes that lock to add a text, and gives way to the worker if the queue is full
 //! - `taking`: how texts are taken out of a shared queue, one by one, or several at a time by a taker
 //! - `named_queue`: what is known of a shared queue whose logs have names
-//! - `latch`: a mark that one thread sets and that others wait for
 #![tactic(auto)]
 
 mod entering;
-mod latch;
 mod named_queue;
 mod policy;
 mod queue_core;
@@ -26,7 +24,6 @@ mod taking;
 mod text_ring;
 mod under_lock;
 
-pub use latch::Latch;
 pub use policy::QueuePolicy;
 pub use queue_core::{QueueCore, Taken};
 pub use queue_error::QueueError;

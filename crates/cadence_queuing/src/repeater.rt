@@ -5,7 +5,7 @@ ghost use Rattle.cadence_queuing.specs.Queuing.{IsQueuingRefusal, repeated_work}
 use cadence_errors::{MetricResult, SinkError};
 use cadence_flow::Handler;
 use cadence_flow::thread::{Job, start};
-use cadence_queue::Latch;
+use cadence_stage::Latch;
 use std::alloc::{Allocator, Global};
 use std::sync::{Arc, Mutex, Wait};
 use std::thread::{self, Threads};

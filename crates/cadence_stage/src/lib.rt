@@ -15,6 +15,7 @@
 //! - `ghost_log`: such a list that only grows, and the one right to add to it
 //! - `names`: the names of such lists, by which two locks speak of the same ones
 //! - `lock`: how a lock is taken
+//! - `latch`: a mark that one thread sets and that others wait for
 #![tactic(auto)]
 
 mod answering_sink;
@@ -23,6 +24,7 @@ mod entry;
 mod ghost_log;
 mod ghost_texts;
 mod kept;
+mod latch;
 mod lock;
 mod locked;
 mod names;
@@ -36,6 +38,7 @@ pub use entry::Entry;
 pub use ghost_log::{Log, OwnLog, Right, Seen, twins};
 pub use ghost_texts::GhostTexts;
 pub use kept::Receipt;
+pub use latch::Latch;
 pub use lock::{acquire, spin};
 pub use locked::Locked;
 pub use names::{Logs, Named, Names, Unnamed};

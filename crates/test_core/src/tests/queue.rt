@@ -4,7 +4,8 @@
 //!
 //! The contracts of `QueueCore` say what each of its calls does, and the program `test_scripts` refuses its memory.
 use cadence_errors::SinkError;
-use cadence_queue::{Latch, QueuePolicy, SharedQueue, Taken};
+use cadence_queue::{QueuePolicy, SharedQueue, Taken};
+use cadence_stage::Latch;
 use std::sync::Wait;
 use std::sync::atomic::{AtomicBool, Ordering};
 use std::test::Fail;
