@@ -1,5 +1,5 @@
 -- The ghost steps of the two halves of a list, and of its beginnings.
-use Rattle.std.proofs.Common.{◌≡◌, ℕ, List, [], ◌∷◌, ◌++◌, map, refl, sym, ap, ◌∙◌}
+use Rattle.std.proofs.Common.{◌≡◌, ℕ, List, [], ◌∷◌, ◌++◌, map, refl, sym, ap, subst, ◌∙◌}
 use mathlib.Core.List.{IsPrefix, cons≢nil}
 use seplogic.Ra.Ura.{Ura}
 use base.Fraction.{full_share, left, right}
@@ -69,11 +69,12 @@ module _ {X : Type 0} (c : Coded X) where
         use1 𝓛 (‵ (latest lists (left full_share) γ []) ⊛ ‵ (latest lists (right full_share) γ [])) (latest_cut lists 𝓛 full_share (left full_share) (right full_share) γ [] (Share.halves full_share)) $
         now ! $ show ! (λ (g : GName). ⟦ log g [] ⟧ ∗ ⟦ right_to g [] ⟧) γ $ done !)
 
-    pub agrees : (γ : ℕ) (xs ys : List X) → ent 𝓤 (⟦ log γ xs ⟧ ∗ ⟦ right_to γ ys ⟧) (guard 𝓤 (xs ≡ ys) (⟦ log γ xs ⟧ ∗ ⟦ right_to γ ys ⟧))
+    pub agrees : (γ δ : ℕ) (xs ys : List X) → δ ≡ γ → ent 𝓤 (⟦ log γ xs ⟧ ∗ ⟦ right_to δ ys ⟧) (guard 𝓤 (ys ≡ xs) (⟦ log γ xs ⟧ ∗ ⟦ right_to δ ys ⟧))
     unfolding log_owns right_owns
-    agrees γ xs ys = let A : Fml = latest lists (left full_share) γ (map c.code xs) in let B : Fml = latest lists (right full_share) γ (map c.code ys) in
+    agrees γ δ xs ys named = let A : Fml = latest lists (left full_share) γ (map c.code xs) in let B : Fml = latest lists (right full_share) γ (map c.code ys) in
+        subst (λ (k : ℕ). ent 𝓤 (⟦ log γ xs ⟧ ∗ ⟦ right_to k ys ⟧) (guard 𝓤 (ys ≡ xs) (⟦ log γ xs ⟧ ∗ ⟦ right_to k ys ⟧))) (sym named) (
         qed 𝓛 (‵ A ∷ ‵ B ∷ []) ∵ use2 𝓛 (given (map c.code xs ≡ map c.code ys) (‵ A ⊛ ‵ B)) (latest_agrees lists 𝓛 (left full_share) (right full_share) γ (map c.code xs) (map c.code ys)) $
-        learn ! (λ e. check ! (same_out xs ys e) $ done !)
+        learn ! (λ e. check ! (sym (same_out xs ys e)) $ done !))
 
     pub moves : (γ : ℕ) (xs zs : List X) → IsPrefix xs zs → ent 𝓤 (⟦ log γ xs ⟧ ∗ ⟦ right_to γ xs ⟧) (H.⇛ (⟦ log γ zs ⟧ ∗ ⟦ right_to γ zs ⟧))
     unfolding log_owns right_owns
@@ -88,11 +89,12 @@ module _ {X : Type 0} (c : Coded X) where
     unfolding log_owns seen_owns
     shows γ xs = latest_shows lists 𝓛 (left full_share) γ (map c.code xs) (map c.code xs) (lists.same (map c.code xs))
 
-    pub bounds : (γ : ℕ) (xs ys : List X) → ent 𝓤 (⟦ log γ xs ⟧ ∗ ⟦ seen γ ys ⟧) (guard 𝓤 (IsPrefix ys xs) (⟦ log γ xs ⟧ ∗ ⟦ seen γ ys ⟧))
+    pub bounds : (γ δ : ℕ) (xs ys : List X) → δ ≡ γ → ent 𝓤 (⟦ log γ xs ⟧ ∗ ⟦ seen δ ys ⟧) (guard 𝓤 (IsPrefix ys xs) (⟦ log γ xs ⟧ ∗ ⟦ seen δ ys ⟧))
     unfolding log_owns seen_owns
-    bounds γ xs ys = let A : Fml = latest lists (left full_share) γ (map c.code xs) in let B : Fml = at_least lists γ (map c.code ys) in
+    bounds γ δ xs ys named = let A : Fml = latest lists (left full_share) γ (map c.code xs) in let B : Fml = at_least lists γ (map c.code ys) in
+        subst (λ (k : ℕ). ent 𝓤 (⟦ log γ xs ⟧ ∗ ⟦ seen k ys ⟧) (guard 𝓤 (IsPrefix ys xs) (⟦ log γ xs ⟧ ∗ ⟦ seen k ys ⟧))) (sym named) (
         qed 𝓛 (‵ A ∷ ‵ B ∷ []) ∵ use2 𝓛 (given (IsPrefix (map c.code ys) (map c.code xs)) (‵ A ⊛ ‵ B)) (latest_bounds lists 𝓛 (left full_share) γ (map c.code xs) (map c.code ys)) $
-        learn ! (λ e. check ! (prefix_out ys xs e) $ done !)
+        learn ! (λ e. check ! (prefix_out ys xs e) $ done !))
 
     pub twice : (γ : ℕ) (xs : List X) → ent 𝓤 ⟦ seen γ xs ⟧ (⟦ seen γ xs ⟧ ∗ ⟦ seen γ xs ⟧)
     unfolding seen_owns

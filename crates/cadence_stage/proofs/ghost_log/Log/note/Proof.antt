@@ -111,13 +111,13 @@ module _ (A : RattleType) {M : Type 1} {𝓤 : Ura M} (𝓛 : Logic 𝓤) (𝓜 
         move ! (1 ∷ []) $ hears ! (λ _. hears_last ! (λ named. split ! $ split ! $ move ! (1 ∷ []) $ split ! $ move ! (3 ∷ []) $ fsplit ! $ fsplit3 ! $ drop ! $ move ! (2 ∷ []) $ fsplit ! $ fsplit3 ! $ drop ! $
         keep ! (3 ∷ 4 ∷ 7 ∷ 0 ∷ 1 ∷ 5 ∷ 6 ∷ []) $ enter ! 𝓣.C 𝓣.Λ function (u ∷ v ∷ w ∷ []) _ $ alloc_all ! (λ l. pass_all ! refl ((tt, tt), ((tt, tt), ((tt, tt), tt))) $
         opens ! tt LogOf r.ref_ptr.0 r.ref_ptr.1 (λ cs. move ! (5 ∷ 6 ∷ 7 ∷ []) $ opens ! tt RightOf s.ref_ptr.0 s.ref_ptr.1 (λ ds. move ! (1 ∷ []) $ fsplit ! $ move ! (7 ∷ []) $ fsplit ! $ move ! (1 ∷ 3 ∷ []) $
-        rewrite ! 1 (λ (k : ℕ). ‵ (right_owns A'.coded.code k b.items)) named refl $ use2 𝓛 (given (a.items ≡ b.items) (‵ (log_owns A'.coded.code a.name a.items) ⊛ ‵ (right_owns A'.coded.code a.name b.items))) (halves.agrees A'.coded 𝓛 a.name a.items b.items) $ learn ! (λ same. split ! $ rewrite ! 1 (λ (ys : List A'.Denot). ‵ (right_owns A'.coded.code a.name ys)) (sym same) refl $ use2 𝓛 (later (‵ (log_owns A'.coded.code a.name items') ⊛ ‵ (right_owns A'.coded.code a.name items'))) (halves.moves A'.coded 𝓛 a.name a.items items' (c ∷ [], refl)) $ await ! tt $ split ! $
+        rewrite ! 1 (λ (k : ℕ). ‵ (right_owns A'.coded.code k b.items)) named refl $ use2 𝓛 (given (b.items ≡ a.items) (‵ (log_owns A'.coded.code a.name a.items) ⊛ ‵ (right_owns A'.coded.code a.name b.items))) (halves.agrees A'.coded 𝓛 a.name a.name a.items b.items refl) $ learn ! (λ same. split ! $ rewrite ! 1 (λ (ys : List A'.Denot). ‵ (right_owns A'.coded.code a.name ys)) same refl $ use2 𝓛 (later (‵ (log_owns A'.coded.code a.name items') ⊛ ‵ (right_owns A'.coded.code a.name items'))) (halves.moves A'.coded 𝓛 a.name a.items items' (c ∷ [], refl)) $ await ! tt $ split ! $
         move ! (2 ∷ 0 ∷ []) $ fjoin ! $ move ! (2 ∷ 1 ∷ []) $ fjoin ! $
         move ! (2 ∷ 0 ∷ 3 ∷ 4 ∷ 5 ∷ []) $ closes ! tt RightOf b' ds s.ref_ptr.0 s.ref_ptr.1 $ move ! (4 ∷ 3 ∷ 5 ∷ 6 ∷ 7 ∷ []) $ closes ! tt LogOf a' cs r.ref_ptr.0 r.ref_ptr.1 $
         sets ! (of_opd ! (unit_lit !)) refl (tt, tt) $ returns ! (look_at ! 0 refl) $ free_all ! refl $ suffices ! _ (ends_at 𝓛 (ended A) stayed held (At passed) vunit tt (a', (b', (tt, tt))) (tt, (tt, (tt, tt)))) $
         feq_i ! (List Val) (u ∷ []) (u ∷ []) refl $ fjoin3 ! $ move ! (2 ∷ 3 ∷ []) $ feq_i ! (List Val) (v ∷ []) (v ∷ []) refl $ fjoin3 ! $ nothing ! $ nothing ! $ fjoin ! $ move ! (1 ∷ 0 ∷ []) $ fjoin ! $ move ! (1 ∷ 0 ∷ []) $ fjoin ! $
         feq_i ! (List Val) (vunit ∷ []) (vunit ∷ []) refl $ move ! (1 ∷ 0 ∷ []) $ join ! $ move ! (2 ∷ 3 ∷ []) $ join ! $ move ! (2 ∷ 0 ∷ []) $ join ! $ join ! $ frame ! $
-        by ! (tells_all 𝓤 ((b.items ≡ a.items) ∷ (a'.items ≡ items') ∷ (b'.items ≡ items') ∷ ((a.name ≡ a.name) × (a.name ≡ a.name)) ∷ []) (sym same, (refl, (refl, (refl, refl)))))))))))
+        by ! (tells_all 𝓤 ((b.items ≡ a.items) ∷ (a'.items ≡ items') ∷ (b'.items ≡ items') ∷ ((a.name ≡ a.name) × (a.name ≡ a.name)) ∷ []) (same, (refl, (refl, (refl, refl)))))))))))
 
   meets : Meets 𝓛 (ended A).signature (WpFn 𝓤 H 𝓣.C 𝓣.Λ function) (closing 𝓛 (ended A) held)
   unfolding tables_of contract.CodeStep.c_Tables
