@@ -1,7 +1,7 @@
 -- The events and service checks that words ask for.
 use Rattle.std.proofs.Common.{◌≡◌, ℕ, ◌≤◌, Bor, Bool, Result, true, false, get_or, length, List, [], ◌∷◌, map, Option, Some, None, Ok, Err}
 use Rattle.std.proofs.Common.{refl, sym, ap, ap₂, ◌∙◌, subst, arith}
-use Rattle.std.specs.Prelude.{String, string_bytes, codes}
+use Rattle.std.specs.Prelude.{MatchResult, String, string_bytes, codes}
 use Rattle.std.specs.List.{AllZip, list_all}
 use Rattle.std.specs.Option.{option_copied, option_map}
 use Rattle.std.proofs.lemmas.Bool.{and_from}
@@ -80,6 +80,16 @@ fails : (Z : Type 0) (Has : List ℕ → Type 0) (why : Option Unfit) (line : Li
 fails Z Has why line (Unusable u) h none = λ x has. unmade Z why line u h (none x has)
 fails Z Has why line OutOfMemory h none = tt
 
+-- A call that makes a line is a search for a text that has the property, if the line has it unless it is refused, and if no
+-- text has it once the line is refused.
+module _ {Z : Type 0} (Has : List ℕ → Type 0) (why : Option Unfit) (line : List ℕ) where
+  found : (r : Result (String Z) (InputError Unfit)) (s : Result (String Z) (InputError Part))
+      → MatchResult r (λ text. s ≡ Ok text) (λ error. s ≡ Err (word_error_of error))
+      → MakesLine why line r → (why ≡ None → Has line) → ((x : List ℕ) → Has x → why ≡ None) → FindsOrFails Has (λ text. string_bytes text) s
+  found (Ok text) s same h has none =
+      let m = made why line text h in subst (FindsOrFails Has (λ t. string_bytes t)) (sym same) (subst Has (sym m.1) (has m.0))
+  found (Err error) s same h has none = subst (FindsOrFails Has (λ t. string_bytes t)) (sym same) (fails Z Has why line error h none)
+
 module _ {Z : Type 0} (d : Defaults Z) (f : Fields) (a b : List ℕ) (words : List (List ℕ)) where
   -- If there is a line of an event, then the words are its tags.
   pub event_tags : (line : List ℕ) → IsLineOfTitled d f a b words line → (tags : List Tag) × AllZip IsTagWord words tags
@@ -96,24 +106,23 @@ module _ {Z : Type 0} (d : Defaults Z) (f : Fields) (a b : List ℕ) (words : Li
 
   module _ (tags : List Tag) (each : AllZip IsTagWord words tags) (e : Event) (asked : e ≡ asked_event d.time f a b tags)
       (k : Bool) (cleans : k ≡ d.settings.cleaned) (line : List ℕ) where
-    -- The line that was made is that of the event that is asked for.
-    pub event_found : {Y : Type 0} (text : String Y) → MakesLine (event_refusal (event_as k e)) line (Ok text)
-        → line ≡ event_line (event_with d.settings.tags d.settings.container (event_as k e)) → IsLineOfTitled d f a b words (string_bytes text)
-    event_found text h is =
-        let m = made (event_refusal (event_as k e)) line text h in (
+    -- A line that was made is that of the event that is asked for. If none was made, then no event that is asked for can
+    -- stand in a line, unless memory ran out.
+    pub event_found : {Y : Type 0} (r : Result (String Y) (InputError Unfit)) (s : Result (String Y) (InputError Part))
+        → MatchResult r (λ text. s ≡ Ok text) (λ error. s ≡ Err (word_error_of error)) → MakesLine (event_refusal (event_as k e)) line r
+        → line ≡ event_line (event_with d.settings.tags d.settings.container (event_as k e))
+        → FindsOrFails (IsLineOfTitled d f a b words) (λ text. string_bytes text) s
+    event_found r s same h is =
+        found (IsLineOfTitled d f a b words) (event_refusal (event_as k e)) line r s same h
+        (λ fit. (
           tags,
           each,
           (
-            sym (ap₂ (λ c x. event_refusal (event_as c x)) cleans asked) ∙ m.0,
-            m.1 ∙ is ∙ ap₂ (λ c x. event_line (event_with d.settings.tags d.settings.container (event_as c x))) cleans asked,
+            sym (ap₂ (λ c x. event_refusal (event_as c x)) cleans asked) ∙ fit,
+            is ∙ ap₂ (λ c x. event_line (event_with d.settings.tags d.settings.container (event_as c x))) cleans asked,
           ),
-        )
-
-    -- If no line was made, then no event that is asked for can stand in a line, unless memory ran out.
-    pub event_fails : (Y : Type 0) (error : InputError Unfit) → MakesLine {Z = Y} (event_refusal (event_as k e)) line (Err error)
-        → FailsAsWord (IsLineOfTitled d f a b words) (word_error_of error)
-    event_fails Y error h = fails Y (IsLineOfTitled d f a b words) (event_refusal (event_as k e)) line error h (λ x (others, too, (none, is)).
-        ap₂ (λ c x. event_refusal (event_as c x)) cleans asked ∙ same_event d.settings.cleaned tags others each too ∙ none)
+        ))
+        (λ x (others, too, (none, is)). ap₂ (λ c x. event_refusal (event_as c x)) cleans asked ∙ same_event d.settings.cleaned tags others each too ∙ none)
 
   -- If there is a line of a service check, then the first text is a name, the second one names a status, and the words are
   -- its tags.
@@ -137,26 +146,26 @@ module _ {Z : Type 0} (d : Defaults Z) (f : Fields) (a b : List ℕ) (words : Li
 
   module _ (s : ServiceStatus) (tags : List Tag) (each : AllZip IsTagWord words tags) (c : ServiceCheck)
       (asked : c ≡ asked_check d.time f a s tags) (k : Bool) (cleans : k ≡ d.settings.cleaned) (line : List ℕ) where
-    -- The line that was made is that of the service check that is asked for.
-    pub check_found : {Y : Type 0} (text : String Y) → IsWord a → NamesStatus b s → MakesLine (check_refusal (check_as k c)) line (Ok text)
-        → line ≡ check_line (check_with d.settings.tags d.settings.container (check_as k c)) → IsLineOfNamed d f a b words (string_bytes text)
-    check_found text word named h is =
-        let m = made (check_refusal (check_as k c)) line text h in (
+    -- A line that was made is that of the service check that is asked for. If none was made, then no service check that is
+    -- asked for can stand in a line, unless memory ran out.
+    pub check_found : {Y : Type 0} (r : Result (String Y) (InputError Unfit)) (l : Result (String Y) (InputError Part)) → IsWord a → NamesStatus b s
+        → MatchResult r (λ text. l ≡ Ok text) (λ error. l ≡ Err (word_error_of error)) → MakesLine (check_refusal (check_as k c)) line r
+        → line ≡ check_line (check_with d.settings.tags d.settings.container (check_as k c))
+        → FindsOrFails (IsLineOfNamed d f a b words) (λ text. string_bytes text) l
+    check_found r l word named same h is =
+        found (IsLineOfNamed d f a b words) (check_refusal (check_as k c)) line r l same h
+        (λ fit. (
           word,
           s,
           named,
           tags,
           each,
           (
-            sym (ap₂ (λ c x. check_refusal (check_as c x)) cleans asked) ∙ m.0,
-            m.1 ∙ is ∙ ap₂ (λ c x. check_line (check_with d.settings.tags d.settings.container (check_as c x))) cleans asked,
+            sym (ap₂ (λ c x. check_refusal (check_as c x)) cleans asked) ∙ fit,
+            is ∙ ap₂ (λ c x. check_line (check_with d.settings.tags d.settings.container (check_as c x))) cleans asked,
           ),
-        )
-
-    -- If no line was made, then no service check that is asked for can stand in a line, unless memory ran out.
-    pub check_fails : (Y : Type 0) (error : InputError Unfit) → MakesLine {Z = Y} (check_refusal (check_as k c)) line (Err error)
-        → FailsAsWord (IsLineOfNamed d f a b words) (word_error_of error)
-    check_fails Y error h = fails Y (IsLineOfNamed d f a b words) (check_refusal (check_as k c)) line error h (λ x (word, other, named, others, too, (none, is)).
+        ))
+        (λ x (word, other, named, others, too, (none, is)).
         ap₂ (λ c x. check_refusal (check_as c x)) cleans asked ∙ same_check d.settings.cleaned s other tags others each too ∙ none)
 
 -- At least three words are three words and the others.

@@ -1,5 +1,5 @@
 //! Makes the lines of events and service checks from the words that ask for them.
-ghost use Rattle.std.specs.Prelude.{◌≡◌, codes, false, map, string_bytes, true};
+ghost use Rattle.std.specs.Prelude.{◌≡◌, Err, MatchResult, Ok, codes, false, map, string_bytes, true};
 ghost use Rattle.std.specs.List.{AllZip};
 ghost use Rattle.cadence_events.specs.Event.{alert_text, event_of, priority_text};
 ghost use Rattle.cadence_events.specs.ServiceCheck.{check_of};
@@ -100,13 +100,17 @@ fn read_tags<'a, A: Allocator>(alloc: A, words: &[&'a str]) -> Result<Vec<Tag<'a
     Ok(tags)
 }
 
-// Returns why there is no line, as an error about words.
-fn error_of(error: LineError) -> WordError
-    ensures { result ≡ word_error_of error }
+// Returns the line, or why there is none, as an error about words.
+fn line_or_word_error<A: Allocator>(
+    line: Result<String<A>, LineError>,
+) -> Result<String<A>, WordError>
+    ensures { MatchResult line (λ text. result ≡ Ok text)
+        (λ error. result ≡ Err (word_error_of error)) }
 {
-    match error {
-        LineError::Unusable(unfit) => WordError::Unusable(Part::Field(unfit)),
-        LineError::OutOfMemory => WordError::OutOfMemory,
+    match line {
+        Ok(text) => Ok(text),
+        Err(LineError::Unusable(unfit)) => Err(WordError::Unusable(Part::Field(unfit))),
+        Err(LineError::OutOfMemory) => Err(WordError::OutOfMemory),
     }
 }
 
@@ -175,10 +179,7 @@ fn line_of_titled<A: Allocator + Clone>(
     let settings = &defaults.settings;
     let (default_tags, container) = (settings.default_tags_text(), settings.default_container());
     let is_cleaned = settings.is_cleaned();
-    match event.line_as(alloc.clone()?, default_tags, container, is_cleaned) {
-        Ok(line) => Ok(line),
-        Err(error) => Err(error_of(error)),
-    }
+    line_or_word_error(event.line_as(alloc.clone()?, default_tags, container, is_cleaned))
 }
 
 // Returns the line that `line_of_titled` returns for the cleaned words of the tags.
@@ -243,10 +244,7 @@ fn line_of_named<A: Allocator + Clone>(
     let settings = &defaults.settings;
     let (default_tags, container) = (settings.default_tags_text(), settings.default_container());
     let is_cleaned = settings.is_cleaned();
-    match check.line_as(alloc.clone()?, default_tags, container, is_cleaned) {
-        Ok(line) => Ok(line),
-        Err(error) => Err(error_of(error)),
-    }
+    line_or_word_error(check.line_as(alloc.clone()?, default_tags, container, is_cleaned))
 }
 
 // Returns the line that `line_of_named` returns for the cleaned name and the cleaned words of the tags.

@@ -6,7 +6,7 @@ use Rattle.cadence_text.specs.Line.{tags_field}
 use Rattle.cadence_text.specs.Record.{tag_of}
 use Rattle.cadence_words.specs.Asked.{IsTagWord}
 use Rattle.cadence_words.specs.Events.{IsLineOfNamed}
-use Rattle.cadence_words.proofs.EventWords.{check_fails, check_found, check_of_tags, check_tags}
+use Rattle.cadence_words.proofs.EventWords.{check_found, check_of_tags, check_tags}
 use Rattle.cadence_words.proofs.WordByWord.{hands_on, texts}
 use Rattle.cadence_words.proofs.events.line_of_named.Goals as goal
 
@@ -19,8 +19,8 @@ returns-in_err-tags g c =
     hands_on (IsLineOfNamed d f c.args.name.now c.args.status.now words) _ (AllZip IsTagWord words) _ c.in_err-tags.field-0.0 is
     (check_tags d f c.args.name.now c.args.status.now words) c.in_err-tags.ensures
 
-pub returns-in-Ok : goal.returns-in-Ok
-returns-in-Ok g c =
+pub returns : goal.returns
+returns g c =
     let d = c.args.defaults.now in
     let f = c.args.fields.now in
     let e = check_of c.check_with-check.result in
@@ -28,15 +28,6 @@ returns-in-Ok g c =
     let is : c.default_tags_text-default_tags.result.now ≡ tags_field d.settings.tags = c.default_tags_text-default_tags.ensures in
     check_found d f c.args.name.now c.args.status.now (texts c.args.words.now) c.in-Some.status (map tag_of c.in_ok-tags.tags.items) c.in_ok-tags.ensures e
     (check_of_tags d.time f _ _ _ _ e c.check_with-check.ensures c.deref.ensures.value) c.is_cleaned-is_cleaned.result c.is_cleaned-is_cleaned.ensures.cleaned _
-    c.in-Ok.line (search rules) c.in-Some.ensures c.in-Ok.ensures.line
+    c.line_as.result c.line_or_word_error.result (search rules) c.in-Some.ensures c.line_or_word_error.ensures c.line_as.ensures.line
     (c.line_as.ensures.defaults d.settings.tags is
     ∙ ap (λ x. check_line (check_with d.settings.tags x sent)) c.default_container-container.ensures)
-
-pub returns : goal.returns
-returns g c =
-    let d = c.args.defaults.now in
-    let f = c.args.fields.now in
-    let e = check_of c.check_with-check.result in
-    rw c.error_of.ensures (check_fails d f c.args.name.now c.args.status.now (texts c.args.words.now) c.in-Some.status (map tag_of c.in_ok-tags.tags.items) c.in_ok-tags.ensures e
-    (check_of_tags d.time f _ _ _ _ e c.check_with-check.ensures c.deref.ensures.value) c.is_cleaned-is_cleaned.result c.is_cleaned-is_cleaned.ensures.cleaned _ _ c.in-Err.error
-    c.in-Err.ensures.line)
