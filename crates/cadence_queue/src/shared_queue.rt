@@ -26,7 +26,7 @@ use std::sync::{Condvar, Mutex, Wait};
 /// `QueueCore`; a `Taker` does several takes in a row. What lies under the lock is a `RecordedQueue`, so whenever the
 /// lock is free, each text that the queue accepted so far was taken or dropped, or it waits.
 ///
-/// `offer`, `stop`, `drop_handle` and the calls whose names end in `_shown` also show, in proofs, the states of the queue
+/// `submit_shown`, `offer`, `try_take`, `take_wait`, `stop` and `drop_handle` also show, in proofs, the states of the queue
 /// between which they made their step. No call lets a text go, so none loses one under the lock: a text may be of a type
 /// that can't be dropped. `M` is the type of a text that the worker is done with: `offer` reuses its memory for a later
 /// text.

@@ -20,17 +20,23 @@ use std::sync::{MutexGuard, Wait};
 use std::thread;
 use std::time::{Clock, Duration};
 
-// The three numbers here were chosen by measurement. They decide how fast the worker is, and nothing else: no contract
+// The four numbers here were chosen by measurement. They decide how fast the worker is, and nothing else: no contract
 // speaks of them, and the queue would be correct with any others.
 
 /// How often a worker looks for texts before it sleeps. It doesn't sleep at once, because a caller that has to wake the
 /// worker takes longer.
 const LOOKS: u32 = 8;
 
+/// After how many of its looks a worker waits on its processor before it looks again. After the others it yields. If it
+/// yielded at once, it would lose its processor to a caller whenever it has emptied a small queue, while the next text
+/// is already being made.
+const LOOKS_BEFORE_A_YIELD: u32 = 3;
+
 /// How often a worker tries the lock in one look, if another thread holds it.
 const TRIES: u32 = 8;
 
-/// How many turns of an empty loop a worker waits between two tries of the lock. A caller waits longer (`acquire`).
+/// How many turns of an empty loop a worker waits between two tries of the lock, and before a look if it doesn't yield.
+/// A caller waits longer (`acquire`).
 const TURNS_BETWEEN_TRIES: u32 = 100;
 
 impl<T, A: Allocator, M: Drop> SharedQueue<T, A, M> {
@@ -39,13 +45,8 @@ impl<T, A: Allocator, M: Drop> SharedQueue<T, A, M> {
     ghost use Rattle.cadence_queue.specs.Queue.{IsTaken};
     ghost use Rattle.cadence_queue.specs.Shown.{after_of, before_of};
 
-    /// Takes the oldest text, if there is one. It doesn't wait.
-    pub fn try_take(&self, rt: &impl Wait) -> Taken<T> {
-        self.try_take_shown(rt).0
-    }
-
-    /// Takes the oldest text, as `try_take` does, and shows the step.
-    pub fn try_take_shown(&self, rt: &impl Wait) -> (Taken<T>, QueueStep<T, A>)
+    /// Takes the oldest text, if there is one, and shows the step. It doesn't wait.
+    pub fn try_take(&self, rt: &impl Wait) -> (Taken<T>, QueueStep<T, A>)
         ensures { IsTaken (before_of result.1) result.0 (after_of result.1) }
     {
         let mut state = acquire(&self.state, rt);
@@ -53,19 +54,8 @@ impl<T, A: Allocator, M: Drop> SharedQueue<T, A, M> {
         state.take(&mut Hand::new())
     }
 
-    /// Takes the oldest text. If there is none, it waits for one, unless the queue is stopped. `None` is the end: the
-    /// queue is stopped and empty.
-    pub fn take_wait(&self, rt: &impl Wait) -> Option<T> {
-        let (taken, _step) = self.take_wait_shown(rt);
-        match taken {
-            Taken::Text(text) => Some(text),
-            Taken::Ended => None,
-            Taken::Empty => unreachable!(),
-        }
-    }
-
-    /// Takes the oldest text, as `take_wait` does, and shows the step.
-    pub fn take_wait_shown(&self, rt: &impl Wait) -> (Taken<T>, QueueStep<T, A>)
+    /// Takes the oldest text, and shows the step. If there is none, it waits for one, unless the queue is stopped.
+    pub fn take_wait(&self, rt: &impl Wait) -> (Taken<T>, QueueStep<T, A>)
         ensures taken { IsTaken (before_of result.1) result.0 (after_of result.1) }
         ensures text { result.0 ≢ Empty }
     {
@@ -116,16 +106,20 @@ impl<T, A: Allocator, M: Drop, N: Logs> SharedQueue<T, A, M, N> {
         Some(state)
     }
 
-    // Looks at the queue several times, as `look` does, and lets other threads run in between.
+    // Looks at the queue several times, as `look` does, and lets other threads run between the later looks.
     fn look_often(&self) -> Option<MutexGuard<'_, UnderLock<T, A, M, N>>>
         ensures { IfSome result (λ state. IsReady (mutex_guard_value state)) }
     {
-        for _ in 0..LOOKS {
+        for looks in 0..LOOKS {
             let found = self.look();
             if found.is_some() {
                 return found;
             }
-            thread::yield_now();
+            if looks < LOOKS_BEFORE_A_YIELD {
+                spin(TURNS_BETWEEN_TRIES);
+            } else {
+                thread::yield_now();
+            }
         }
         None
     }

@@ -7,6 +7,7 @@ ghost use Rattle.cadence_queuing.specs.Logs.{names_of};
 ghost use Rattle.cadence_queuing.specs.Queuing.{IsQueuingRefusal, flush_period, queue_capacity, queue_policy, wrapped_sink};
 
 use super::QueuingMetricSink;
+use super::long_texts::LongTexts;
 use super::worker::{Part, Shared, Start, Worker};
 use crate::fed_sink::FedSink;
 use crate::feeds::Feeds;
@@ -115,9 +116,11 @@ fn make_sink<S: Drop, R: Wait + Drop, A: Allocator + Clone, N: Logs>(
     ensures period { IfOk result (λ q. flush_period q ≡ period) }
     ensures refused { IfErr result IsQueuingRefusal }
 {
+    let long_texts = LongTexts::new(alloc.clone()?)?;
     let shared = Shared {
         sink,
         queue,
+        long_texts,
         period,
     };
     let shared = Arc::new(alloc.clone()?, shared)?;

@@ -1,6 +1,9 @@
 //! A queue and the stage that its worker feeds, as proofs see them at one moment.
-ghost use Rattle.std.specs.Prelude.{◌≡◌, [], OnOk};
+ghost use Rattle.std.specs.Prelude.{◌≡◌, [], ◌++◌, OnOk, false};
 ghost use Rattle.cadence_flow.specs.RecordedPacker.{IsPackerStep, packer_of};
+ghost use Rattle.cadence_queue.specs.QueuePast.{IsPast};
+ghost use Rattle.cadence_queue.specs.QueueState.{drops};
+ghost use Rattle.cadence_queue.specs.RecordedQueue.{core_of};
 ghost use Rattle.cadence_queuing.specs.Delivered.{IsPackedOf};
 ghost use Rattle.cadence_stage.specs.Call.{Flush};
 
@@ -24,7 +27,7 @@ where
 }
 
 impl<S: Stage, A: Allocator, J: Names> Look<S, A, J> {
-    ghost use Rattle.cadence_queuing.specs.Look.{calls_at, fed_at, queue_at, stage_at};
+    ghost use Rattle.cadence_queuing.specs.Look.{calls_at, fed_at, policy_at, queue_at, stage_at, texts_accepted, texts_taken};
     ghost use Rattle.cadence_stage.specs.Past.{taken_in};
 
     // Keeps what was seen.
@@ -37,6 +40,15 @@ impl<S: Stage, A: Allocator, J: Names> Look<S, A, J> {
     {
         Look { queue, stage }
     }
+
+    /// States that each line that the queue accepted was taken or dropped, or it waits, in order (`past`). In a queue that
+    /// drops none, the accepted lines are those that were taken, and then those that wait. Does nothing when it is called.
+    pub fn in_order(&self)
+        ensures past { ∥ IsPast (texts_accepted self.now) (texts_taken self.now)
+            (core_of (queue_at self.now)) ∥₁ }
+        ensures whole { drops (policy_at self.now) ≡ false → texts_accepted self.now
+            ≡ texts_taken self.now ++ (core_of (queue_at self.now)).waiting }
+    {}
 
     /// States that the stage took just those lines that it answered with a number. Does nothing when it is called.
     pub fn took(&self)

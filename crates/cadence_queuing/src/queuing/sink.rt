@@ -135,9 +135,10 @@ impl<S: Drop, R: Wait + Drop, A: Allocator + Clone, N: Logs> QueuingMetricSink<S
         }
     }
 
-    // Queues a copy of a long line, as `queue_copy` does. No older line has enough memory for it, so the copy is made before
-    // the lock is taken, and freed after that if the queue refuses it. If there is no memory for the copy, the state of
-    // the queue still decides which error comes first. It is a function of its own, so that the way of other lines is short.
+    // Queues a copy of a long line, as `queue_copy` does. No spare of the queue has enough memory for it, so the copy is
+    // made before the lock is taken, in a text of an earlier long line if there is one. If the queue refuses it, the copy
+    // is kept for a later line. If there is no memory for the copy, the state of the queue still decides which error comes
+    // first. It is a function of its own, so that the way of other lines is short.
     #[inline(never)]
     fn queue_long(
         &self,
@@ -155,7 +156,8 @@ impl<S: Drop, R: Wait + Drop, A: Allocator + Clone, N: Logs> QueuingMetricSink<S
         ensures named { ForSome N.logs (λ names. log_after result.1 ≡ names.accepted) }
     {
         let queue = &self.shared.queue;
-        let Ok(text) = copy_line(None, &self.alloc, line) else {
+        let long_texts = &self.shared.long_texts;
+        let Ok(text) = copy_line(long_texts.take(), &self.alloc, line) else {
             let (answer, step) = queue.offer(&self.rt, |_older| Err(AllocError));
             return match answer {
                 Ok(_) => unreachable!(),
@@ -166,7 +168,10 @@ impl<S: Drop, R: Wait + Drop, A: Allocator + Clone, N: Logs> QueuingMetricSink<S
         let (answer, step) = queue.submit_shown(&self.rt, text);
         match answer {
             Ok(_dropped) => (Ok(copy), step),
-            Err((error, _text)) => (Err(error), step),
+            Err((error, text)) => {
+                long_texts.keep(text);
+                (Err(error), step)
+            }
         }
     }
 }
@@ -204,7 +209,8 @@ impl<S: Drop, R: Wait + Drop, A: Allocator + Clone, N: Logs> AnsweringSink
 ///
 /// An accepted line requests memory at most once, apart from the growth of an unbounded queue: if the worker has handed
 /// on a line with enough memory, the new line is copied into that. A line of more than 512 bytes is copied before the
-/// lock is taken: it requests memory once, also if it is refused. For other lines the first two errors request none.
+/// lock is taken, so it may request memory once also if it is refused. For other lines the first two errors request
+/// none.
 /// `flush` flushes the wrapped sink and doesn't wait for the queue. `stats` returns the counts of the wrapped sink, and
 /// `dropped_lines` adds `dropped` to the number of the wrapped sink.
 impl<S: MetricSink, R: Wait + Drop, A: Allocator + Clone> MetricSink

@@ -9,6 +9,7 @@ ghost use Rattle.cadence_stage.specs.Call.{call_of};
 ghost use Rattle.cadence_stage.specs.Past.{lines_in};
 ghost use Rattle.cadence_stage.specs.OwnLog.{items_of};
 
+use super::long_texts::LongTexts;
 use crate::feeds::Feeds;
 use crate::flush_timer::FlushTimer;
 use crate::worklist::{Worklist, work};
@@ -23,7 +24,8 @@ use std::sync::{Arc, Wait};
 use std::thread;
 use std::time::{Clock, Duration, Instant};
 
-/// The largest capacity in bytes of a line whose memory goes back to the queue, for a later line to be copied into.
+/// The largest capacity in bytes of a line whose memory goes back to the queue, for a later line to be copied into. The
+/// memory of longer lines goes to the `LongTexts`.
 pub(super) const WIDEST_KEPT: usize = 512;
 
 /// What the handles and the worker share. The lock of the queue is free while the sink works.
@@ -31,6 +33,8 @@ pub(super) const WIDEST_KEPT: usize = 512;
 pub struct Shared<S: Drop, A: Allocator, N: Logs> {
     pub sink: S,
     pub queue: SharedQueue<String<A>, A, String<A>, N>,
+    /// The texts of lines longer than `WIDEST_KEPT` that were handed on.
+    pub long_texts: LongTexts<A>,
     /// After which time the worker flushes the sink. `None` means that it never does.
     pub period: Option<Duration>,
 }
@@ -103,6 +107,7 @@ struct QueueWorklist<'a, S: Drop, R: Wait + Clock + Drop, A: Allocator, N: Feeds
     rt: &'a R,
     sink: &'a S,
     handler: &'a H,
+    long_texts: &'a LongTexts<A>,
     taker: Taker<'a, String<A>, A, String<A>, N>,
     handed: OwnLog<String<A>>,
     fed: N::Fed,
@@ -140,6 +145,7 @@ impl<
             rt,
             sink: &shared.sink,
             handler,
+            long_texts: &shared.long_texts,
             taker: shared.queue.taker_by(rt, room, take, seen),
             handed: OwnLog::new(),
             fed,
@@ -238,6 +244,7 @@ impl<
             rt: _,
             sink: _,
             handler: _,
+            long_texts: _,
             taker,
             handed: _,
             fed: _,
@@ -279,6 +286,8 @@ impl<S: Drop, R: Wait + Clock + Drop, A: Allocator + Clone, N: Feeds<S, A>, H: R
         }
         if text.capacity() <= WIDEST_KEPT {
             self.taker.give_back(text);
+        } else {
+            self.long_texts.keep(text);
         }
         self.timer.note_line();
     }

@@ -17,6 +17,14 @@ fn sleep_a_while<R: Clock>(rt: &R) {
     thread::sleep(rt, Duration::from_millis(20));
 }
 
+// Returns the text that was taken, if one was.
+fn text_of(taken: Taken<char>) -> Option<char> {
+    match taken {
+        Taken::Text(text) => Some(text),
+        Taken::Empty | Taken::Ended => None,
+    }
+}
+
 // What wakes a thread that waits for a text.
 #[derive(Clone, Copy)]
 enum Wake {
@@ -33,7 +41,7 @@ fn wake_a_taker<R: Wait + Clock + Threads + Sync>(
 ) -> Option<char> {
     let (got, _) = thread::join(
         rt,
-        || queue.take_wait(rt),
+        || text_of(queue.take_wait(rt).0),
         || {
             sleep_a_while(rt);
             match wake {
@@ -58,7 +66,7 @@ fn a_waiting_taker_is_woken(rt: HostRuntime) -> Result<(), Fail> {
     for (wake, wanted) in wakes {
         let queue = SharedQueue::new(rt.alloc(), Some(1))?;
         assert!(rt; wake_a_taker(&rt, &queue, wake) == wanted);
-        assert!(rt; matches!(queue.try_take(&rt), Taken::Ended) == wanted.is_none());
+        assert!(rt; matches!(queue.try_take(&rt).0, Taken::Ended) == wanted.is_none());
     }
     Ok(())
 }
@@ -103,8 +111,8 @@ fn a_full_queue_does_as_its_policy_says(rt: HostRuntime) -> Result<(), Fail> {
         assert!(rt; answers_by_policy(&rt, &queue, policy));
         assert!(rt; accepts(&rt, &queue, 'C') == (policy == QueuePolicy::DropOldest));
         assert!(rt; counts_of(&rt, &queue) == counts);
-        assert!(rt; matches!(queue.try_take(&rt), Taken::Text(text) if text == left));
-        assert!(rt; matches!(queue.try_take(&rt), Taken::Empty));
+        assert!(rt; matches!(queue.try_take(&rt).0, Taken::Text(text) if text == left));
+        assert!(rt; matches!(queue.try_take(&rt).0, Taken::Empty));
         assert!(rt; queue.drained(&rt) == 1 && queue.waiting(&rt) == 0);
     }
     Ok(())
@@ -123,7 +131,9 @@ fn the_last_handle_stops_a_queue(rt: HostRuntime) -> Result<(), Fail> {
             Err((SinkError::ChannelDisconnected, 'B'))
         )
     );
-    assert!(rt; queue.take_wait(&rt) == Some('A') && queue.take_wait(&rt).is_none());
+    assert!(rt;
+        queue.take_wait(&rt).0 == Taken::Text('A') && queue.take_wait(&rt).0 == Taken::Ended
+    );
     Ok(())
 }
 
