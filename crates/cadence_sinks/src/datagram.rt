@@ -1,11 +1,11 @@
 //! What the sinks over UDP and over Unix sockets share: a socket with its counts, and a buffer under a lock over one.
 ghost use Rattle.std.specs.Option.{ok_or};
-ghost use Rattle.std.specs.Prelude.{◌≡◌, [], Bool, IfOk, length};
+ghost use Rattle.std.specs.Prelude.{◌≡◌, [], Bool, IfOk, List, Result, length, ℕ, ⊤};
 ghost use Rattle.cadence_errors.specs.Errors.{MayOnlyRunOutOfMemory};
 ghost use Rattle.cadence_errors.specs.declared.SinkError.{SinkError};
 ghost use Rattle.cadence_flow.specs.RecordedPacker.{past_of};
 ghost use Rattle.cadence_flow.specs.Unread.{IsCounted, len_of, count_taken};
-ghost use Rattle.cadence_flow.specs.Writer.{history_of};
+ghost use Rattle.cadence_flow.specs.Writer.{WritesPacket, history_of};
 ghost use Rattle.cadence_sinks.specs.Buffers.{buffer_of};
 ghost use Rattle.cadence_sinks.specs.Sockets.{IsBufferedAnswer, IsBufferedFlush, IsSocketAnswer, socket_kind};
 
@@ -22,12 +22,16 @@ pub trait DatagramSocket: Drop {
     /// The errors that the socket may return.
     ghost may_give: { SinkError → Bool };
 
+    /// What the socket may answer for a packet. Code for any socket can show this only by a call of `send`.
+    ghost may_answer: { Self → List ℕ → Result ℕ SinkError → Type 0 };
+
     /// Sends a packet. The answer has the number of the packet's first bytes that the socket took, or `None` after an
     /// error, which is in `fault` then. Nobody can read the answer before it was counted, by `SinkStats::count`. A
     /// `Result` in its place would be as wide as the widest error, and each function that passes one on copies all of
     /// it.
     fn send(&self, packet: &[u8], fault: &mut SinkError) -> Unread
         ensures answer { IsSocketAnswer may_give packet.now (ok_or (count_taken result) fault.new) }
+        ensures asked { may_answer self.now packet.now (ok_or (count_taken result) fault.new) }
         ensures len { len_of result ≡ length packet.now };
 }
 
@@ -36,10 +40,14 @@ pub trait PacketSocket: Drop {
     /// The errors that the socket may return.
     ghost may_give: { SinkError → Bool };
 
+    /// What the socket may answer for a packet, as for a `DatagramSocket`.
+    ghost may_answer: { Self → List ℕ → Result ℕ SinkError → Type 0 } = { λ _ _ _. ⊤ };
+
     /// Sends a packet, and returns how many of its first bytes were taken. After an error it is `None`, and the error is
     /// in `fault`.
     fn send_packet(&mut self, packet: &[u8], fault: &mut SinkError) -> Option<usize>
-        ensures { IsSocketAnswer may_give packet.now (ok_or result fault.new) };
+        ensures answer { IsSocketAnswer may_give packet.now (ok_or result fault.new) }
+        ensures asked { may_answer self.old packet.now (ok_or result fault.new) };
 }
 
 /// A socket whose results are counted: the bytes and packets that were sent, and those that were dropped.
@@ -69,7 +77,8 @@ impl<D: DatagramSocket, R: Wait + Drop, A: Allocator> CountedSocket<D, R, A> {
 impl<D: DatagramSocket, R: Wait + Drop, A: Allocator> AnsweringSink for CountedSocket<D, R, A> {
     type Receipt = Counted;
 
-    ghost may_answer = { λ _ line answer. IsSocketAnswer D.may_give line answer };
+    ghost may_answer = { λ s line answer.
+        IsSocketAnswer D.may_give line answer × D.may_answer s.socket line answer };
 
     ghost shows = { λ _ counted _ answer. IsCounted counted answer };
 
@@ -83,6 +92,8 @@ impl<D: DatagramSocket, R: Wait + Drop, A: Allocator> AnsweringSink for CountedS
 /// Each result is counted.
 impl<D: DatagramSocket, R: Wait + Drop, A: Allocator> PacketSocket for CountedSocket<D, R, A> {
     ghost may_give = { D.may_give };
+
+    ghost may_answer = { λ s packet answer. D.may_answer s.socket packet answer };
 
     // Without this hint a line of `bench udp 16 20` takes 14 instructions more.
     #[inline(always)]
@@ -122,7 +133,11 @@ impl<S: PacketSocket> PacketWriter for SocketWriter<S> {
 
     // Without this hint a line of `bench udp 16 20` takes 17 instructions more.
     #[inline(always)]
-    fn write_packet_narrow(&mut self, packet: &[u8], fault: &mut SinkError) -> Option<usize> {
+    fn write_packet_narrow(&mut self, packet: &[u8], fault: &mut SinkError) -> Option<usize>
+        ensures writes { WritesPacket (socket_kind S.may_give) (history_of [] self.old.refusals)
+            (history_of [] self.new.refusals) packet.now (ok_or result fault.new) }
+        ensures asked { S.may_answer self.old.socket packet.now (ok_or result fault.new) }
+    {
         let taken = self.socket.send_packet(packet, fault);
         if taken.is_none() {
             self.refusals.add(packet.len());

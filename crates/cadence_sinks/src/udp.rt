@@ -1,6 +1,6 @@
 //! Sinks over a UDP socket, and their builders: one sink sends each line as a datagram, the other packs lines into
 //! datagrams.
-ghost use Rattle.std.specs.Prelude.{◌≡◌, [], false, IfOk, IfErr, Some, None, is_some, unwrap_or};
+ghost use Rattle.std.specs.Prelude.{◌≡◌, [], false, IfOk, IfErr, Some, None, is_some, unwrap_or, ⊤};
 ghost use Rattle.cadence_flow.specs.RecordedPacker.{past_of};
 ghost use Rattle.cadence_resolve.specs.Refusals.{IsSocketRefusal, IsTargetRefusal};
 ghost use Rattle.cadence_stage.specs.Answered.{IsAnswered, IsFlushAnswered, answered_by_holding_nothing};
@@ -29,6 +29,8 @@ pub struct UdpPeer<R: Wait + Drop, A: Allocator> {
 
 impl<R: Wait + Drop, A: Allocator> DatagramSocket for UdpPeer<R, A> {
     ghost may_give = { is_io };
+
+    ghost may_answer = { λ _ _ _. ⊤ };
 
     fn send(&self, packet: &[u8], fault: &mut SinkError) -> Unread {
         let taken = match self.socket.send_to(packet, self.resolver.get_addr()) {

@@ -1,5 +1,5 @@
 //! Sinks over a datagram socket that sends to a path: one sends each line alone, the other packs lines.
-ghost use Rattle.std.specs.Prelude.{◌≡◌, [], Bool, true, IfOk};
+ghost use Rattle.std.specs.Prelude.{◌≡◌, [], Bool, IfOk, List, Result, string_bytes, true, ℕ, ⊤};
 ghost use Rattle.cadence_errors.specs.Errors.{MayOnlyRunOutOfMemory};
 ghost use Rattle.cadence_errors.specs.declared.SinkError.{SinkError};
 ghost use Rattle.cadence_flow.specs.RecordedPacker.{past_of};
@@ -22,10 +22,14 @@ pub trait PathSocket: Drop {
     /// The errors that the socket may return.
     ghost may_give: { SinkError → Bool } = { λ _. true };
 
+    /// What the socket may answer for a packet to a path. Code for any socket can show this only by a call of `send_to`.
+    ghost may_answer: { Self → List ℕ → List ℕ → Result ℕ SinkError → Type 0 } = { λ _ _ _ _. ⊤ };
+
     /// Sends a packet to a path, and returns how many of its first bytes were taken. A buffered sink calls it while it
     /// holds the lock of its buffer, so it must not send a metric over its own sink: that would wait for ever.
     fn send_to(&self, packet: &[u8], path: &str) -> Result<usize, SinkError>
-        ensures { IsSocketAnswer may_give packet.now result };
+        ensures answer { IsSocketAnswer may_give packet.now result }
+        ensures asked { may_answer self.now packet.now path.now result };
 }
 
 // A socket with the path that it sends to.
@@ -37,6 +41,9 @@ pub struct PathPeer<P: PathSocket, A: Allocator> {
 
 impl<P: PathSocket, A: Allocator> DatagramSocket for PathPeer<P, A> {
     ghost may_give = { P.may_give };
+
+    ghost may_answer = { λ s packet answer.
+        P.may_answer s.socket packet (string_bytes s.path) answer };
 
     fn send(&self, packet: &[u8], fault: &mut SinkError) -> Unread {
         let taken = match self.socket.send_to(packet, self.path.as_str()) {

@@ -14,6 +14,14 @@ type Messages<A> = Arc<SharedQueue<Vec<u8, A>, A>, A>;
 /// What the queue of a spy shows of a message: between two states it accepted the message, or refused it.
 pub type MessageStep<A> = QueueStep<Vec<u8, A>, A>;
 
+// Returns the text that was taken, if one was.
+fn text_of<T>(taken: Taken<T>) -> Option<T> {
+    match taken {
+        Taken::Text(text) => Some(text),
+        Taken::Empty | Taken::Ended => None,
+    }
+}
+
 /// Returns the messages of a spy, the oldest first. After its drop the spy refuses lines with `ChannelDisconnected`.
 pub struct SpyReceiver<R: Wait + Drop, A: Allocator = Global> {
     rt: R,
@@ -23,15 +31,12 @@ pub struct SpyReceiver<R: Wait + Drop, A: Allocator = Global> {
 impl<R: Wait + Drop, A: Allocator> SpyReceiver<R, A> {
     /// Waits for a message and returns it. Returns `None` if no message is left and the spy was dropped.
     pub fn recv(&self) -> Option<Vec<u8, A>> {
-        self.messages.take_wait(&self.rt)
+        text_of(self.messages.take_wait(&self.rt).0)
     }
 
     /// Returns the oldest message, if there is one. It doesn't wait for a message.
     pub fn try_recv(&self) -> Option<Vec<u8, A>> {
-        match self.messages.try_take(&self.rt) {
-            Taken::Text(message) => Some(message),
-            Taken::Empty | Taken::Ended => None,
-        }
+        text_of(self.messages.try_take(&self.rt).0)
     }
 
     /// Returns whether no message waits.
