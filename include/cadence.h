@@ -10,8 +10,9 @@
  *         if (send(fd, packet, length, 0) >= 0) cadence_sent(&client); else break;
  *     cadence_free(&client);
  *
- * Settings are what each line has: a prefix, default tags, a default container, and whether they refuse or clean the
- * texts of calls. They are in memory of the host, so any number of threads and clients may read them at the same time.
+ * Settings are what each line has: a prefix, default tags, a default container, external data, a default cardinality,
+ * and whether they refuse or clean the texts of calls. They are in memory of the host, so any number of threads and
+ * clients may read them at the same time.
  * A client packs the lines of metrics into packets. It starts no thread, takes no lock and opens no socket: the host
  * asks for the oldest finished packet (cadence_next), sends it, and then drops it (cadence_sent). A host that packs
  * lines by itself needs no client: cadence_format_signed and the calls after it write one line each. cadence_event and
@@ -46,8 +47,8 @@
  *     is NaN, infinite or too large, or the kind is CADENCE_CHANGE and there is not exactly one value;
  *   - CADENCE_NO_CLIENT;
  *   - for the rest of the call, CADENCE_NOT_UTF8 for the settings and the key, CADENCE_INVALID for the kind,
- *     CADENCE_NOT_UTF8 for the container or a tag, CADENCE_INVALID for the rate, CADENCE_SEPARATOR, CADENCE_NO_MEMORY
- *     for the line;
+ *     CADENCE_NOT_UTF8 for the container or a tag, CADENCE_INVALID for the rate or a cardinality, CADENCE_SEPARATOR,
+ *     CADENCE_NO_MEMORY for the line;
  *   - CADENCE_FULL, CADENCE_NO_MEMORY for the packet.
  *   cadence_member: CADENCE_INVALID for the member, and then the same.
  * - cadence_line, cadence_flush, cadence_flush_sums: CADENCE_NO_CLIENT, CADENCE_FULL, CADENCE_NO_MEMORY.
@@ -64,8 +65,9 @@
  *   cadence_format_duration, cadence_format_member: the above for the values or the member, the above for the rest of
  *   the call, CADENCE_TOO_SMALL.
  * - cadence_decimal_of_double, cadence_rounded_of_double, cadence_chooses: CADENCE_INVALID.
- * - cadence_destination, cadence_environment_tags, cadence_environment_prefix, cadence_environment_container:
- *   CADENCE_VARIABLE, CADENCE_NO_MEMORY, CADENCE_TOO_SMALL.
+ * - cadence_destination, cadence_environment_tags, cadence_environment_prefix, cadence_environment_container,
+ *   cadence_environment_external: CADENCE_VARIABLE, CADENCE_NO_MEMORY, CADENCE_TOO_SMALL.
+ *   cadence_environment_cardinality: the first two of these.
  *   cadence_variable_text: CADENCE_INVALID, CADENCE_NO_MEMORY, CADENCE_TOO_SMALL.
  * - cadence_prefix_text: CADENCE_NOT_UTF8, CADENCE_NO_MEMORY, CADENCE_SEPARATOR, CADENCE_NO_MEMORY for the cleaned
  *   prefix, CADENCE_TOO_SMALL. cadence_tags_text: CADENCE_NOT_UTF8, CADENCE_SEPARATOR, CADENCE_NO_MEMORY,
@@ -78,9 +80,9 @@
 #define CADENCE_H
 
 #define CADENCE_VERSION_MAJOR 0
-#define CADENCE_VERSION_MINOR 8
+#define CADENCE_VERSION_MINOR 9
 #define CADENCE_VERSION_PATCH 0
-#define CADENCE_VERSION "0.8.0"
+#define CADENCE_VERSION "0.9.0"
 
 #include <stdbool.h>
 #include <stddef.h>
@@ -117,12 +119,14 @@ enum {
     CADENCE_NO_CLIENT = 1, /* the handle is closed: it has no client; or the sums are closed */
     CADENCE_NO_MEMORY = 2, /* memory ran out */
     CADENCE_FULL = 3,      /* there is no room for the packets that the call makes: send a packet, then try again */
-    CADENCE_INVALID = 4,   /* no such kind, policy, key, priority, alert type or status of a service, fewer than 2 packets,
-                              a kind without durations, a bad number, a text that can't be a member of a set */
+    CADENCE_INVALID = 4,   /* no such kind, policy, key, cardinality, priority, alert type or status of a service, fewer
+                              than 2 packets, a kind without durations, a bad number, a text that can't be a member of a
+                              set */
     CADENCE_NOT_UTF8 = 5,  /* a text is not UTF-8 */
     CADENCE_NO_PACKET = 6, /* no packet waits */
     CADENCE_TOO_SMALL = 7, /* the buffer is too small: *length is the size that is needed, in bytes */
-    CADENCE_SEPARATOR = 8, /* the settings are strict, and a text has a ':', a ',', a '|' or a newline */
+    CADENCE_SEPARATOR = 8, /* the settings are strict, and a text has a ':', a ',', a '|' or a newline; or external data
+                              have a '|' or a newline */
     CADENCE_VARIABLE = 9,  /* a variable of the environment can't be used: *variable is its number */
     /* Of an event or a service check, the first text in the line that can't stand there. All but the message have a ':',
      * a ',', a '|' or a newline. */
@@ -153,6 +157,16 @@ enum {
     CADENCE_CHANGE = 7 /* a gauge changes by the value, which is printed with its sign, as +3; the call has one value */
 };
 
+/* Which tags of its container a Datadog agent adds to a metric (DogStatsD's field `card`). If a metric has none, the agent
+ * decides. Tags of more values make more series, which a server stores. */
+enum {
+    CADENCE_NO_CARDINALITY = 0,
+    CADENCE_CARDINALITY_NONE = 1,         /* `none`: no tags */
+    CADENCE_CARDINALITY_LOW = 2,          /* `low`: tags of few values, such as the name of an image */
+    CADENCE_CARDINALITY_ORCHESTRATOR = 3, /* `orchestrator`: also those of a pod or a task */
+    CADENCE_CARDINALITY_HIGH = 4          /* `high`: also those of a single container */
+};
+
 /* A decimal number: mantissa divided by 10 to the power of places. At most 30 places are valid. It is printed without
  * trailing zeros: mantissa 250 with 2 places prints as 2.5. */
 typedef struct cadence_decimal_number {
@@ -180,7 +194,12 @@ typedef struct cadence_tag {
  * If `cleaned` is set, and `strict` isn't, no call is refused for these bytes: each of them is printed as a '_'. The
  * colons in the text of a tag with a key stay. The texts of the settings are cleaned when they are made:
  * cadence_prefix_text and cadence_tags_text clean theirs, and cadence_cleaned_text a container. The member of a set is
- * never cleaned. If both are set, the settings are strict. */
+ * never cleaned. If both are set, the settings are strict.
+ * `external` are external data (DogStatsD's field `e`), unless external_len is 0: the value of DD_EXTERNAL_ENV, by which
+ * a Datadog agent finds the container and the pod of the process. They are printed as they are, also if the settings are
+ * strict or cleaned. A '|' or a newline would end them, so cadence_settings_enrich refuses these.
+ * `cardinality` is the default cardinality, or CADENCE_NO_CARDINALITY. The lines of events and service checks have
+ * neither. */
 typedef struct cadence_settings {
     const uint8_t *prefix;
     size_t prefix_len;
@@ -191,17 +210,22 @@ typedef struct cadence_settings {
     bool contained;
     bool strict;
     bool cleaned;
+    const uint8_t *external;
+    size_t external_len;
+    uint32_t cardinality;
 } cadence_settings;
 
 /* Settings that add nothing, and that neither refuse nor clean the texts of calls. */
-#define CADENCE_NO_SETTINGS { CADENCE_NULL, 0, CADENCE_NULL, 0, CADENCE_NULL, 0, false, false, false }
+#define CADENCE_NO_SETTINGS                                                                                            \
+    { CADENCE_NULL, 0, CADENCE_NULL, 0, CADENCE_NULL, 0, false, false, false, CADENCE_NULL, 0, CADENCE_NO_CARDINALITY }
 
 /* What a call adds to its metric. The tags come after the default ones. If `contained` is set, the container replaces
  * the default one. If `rated` is set, the metric has a sampling rate. If `timed` is set, it has a time, in the unit
  * that the server reads (seconds for DogStatsD). No call samples: each one keeps its line, and the server scales by the
  * rate. Texts are printed as they are, with any separators in them, unless the settings are strict or cleaned. If
  * `known` is set, the host must ensure that all texts of the call are UTF-8: its key, and those of the options and the
- * settings. They are then not tested for that. Otherwise each is tested once. */
+ * settings. They are then not tested for that. Otherwise each is tested once. `cardinality` replaces the default one,
+ * unless it is CADENCE_NO_CARDINALITY. */
 typedef struct cadence_options {
     const cadence_tag *tags;
     size_t tags_len;
@@ -213,9 +237,11 @@ typedef struct cadence_options {
     bool rated;
     bool timed;
     bool known;
+    uint32_t cardinality;
 } cadence_options;
 
-#define CADENCE_NO_OPTIONS { CADENCE_NULL, 0, CADENCE_NULL, 0, { 0, 0 }, 0, false, false, false, false }
+#define CADENCE_NO_OPTIONS                                                                                             \
+    { CADENCE_NULL, 0, CADENCE_NULL, 0, { 0, 0 }, 0, false, false, false, false, CADENCE_NO_CARDINALITY }
 
 /* How much an event matters. A server takes an event without a priority for a normal one. */
 enum {
@@ -316,8 +342,9 @@ void cadence_free(cadence_handle *handle);
  * filled. Otherwise the held text becomes a packet first. A line that is longer than the capacity with its newline then
  * becomes a packet of its own, without the newline. The client keeps the buffer of the longest line that these calls
  * made, so most calls allocate nothing. They return CADENCE_OK, CADENCE_NO_CLIENT, CADENCE_NOT_UTF8 for a text of the
- * settings, the key, a tag or the container, CADENCE_INVALID for the kind, a value or the rate, CADENCE_SEPARATOR for
- * the key, a tag or the container if the settings are strict, CADENCE_NO_MEMORY or CADENCE_FULL. */
+ * settings, the key, a tag or the container, CADENCE_INVALID for the kind, a value, the rate or a cardinality,
+ * CADENCE_SEPARATOR for the key, a tag or the container if the settings are strict, CADENCE_NO_MEMORY or
+ * CADENCE_FULL. */
 uint32_t cadence_signed(cadence_handle *handle, const cadence_settings *settings, uint32_t kind, const uint8_t *key,
                         size_t key_len, const int64_t *values, size_t values_len, const cadence_options *options);
 uint32_t cadence_unsigned(cadence_handle *handle, const cadence_settings *settings, uint32_t kind, const uint8_t *key,
@@ -490,9 +517,9 @@ uint32_t cadence_chooses(const cadence_decimal_number *chance, uint64_t draw, bo
 
 /* The values of the variables of the environment: DD_DOGSTATSD_URL, DD_DOGSTATSD_SOCKET, DD_AGENT_HOST,
  * DD_DOGSTATSD_PORT, STATSD_HOST, STATSD_PORT, DD_ENV, DD_SERVICE, DD_VERSION, DD_TAGS, DD_ENTITY_ID,
- * DD_DOGSTATSD_DISABLE, STATSD_ENABLED, STATSD_MAXUDPSIZE, STATSD_PREFIX, DD_ORIGIN_DETECTION_ENABLED and STATSD_IPV6.
- * A variable that isn't set has the empty text. The number of a variable is its place here, from 0 on;
- * cadence_variable_name returns its name. */
+ * DD_DOGSTATSD_DISABLE, STATSD_ENABLED, STATSD_MAXUDPSIZE, STATSD_PREFIX, DD_ORIGIN_DETECTION_ENABLED, STATSD_IPV6,
+ * DD_EXTERNAL_ENV, DD_CARDINALITY and DATADOG_CARDINALITY. A variable that isn't set has the empty text. The number of
+ * a variable is its place here, from 0 on; cadence_variable_name returns its name. */
 typedef struct cadence_variables {
     const uint8_t *url;
     size_t url_len;
@@ -528,6 +555,12 @@ typedef struct cadence_variables {
     size_t origin_len;
     const uint8_t *ipv6;
     size_t ipv6_len;
+    const uint8_t *external;
+    size_t external_len;
+    const uint8_t *cardinality;
+    size_t cardinality_len;
+    const uint8_t *datadog_cardinality;
+    size_t datadog_cardinality_len;
 } cadence_variables;
 
 /* Writes where the variables say to send into `out`, and sets *length to the length of that text in bytes: a host,
@@ -563,6 +596,20 @@ uint32_t cadence_environment_prefix(const cadence_variables *variables, uint8_t 
 uint32_t cadence_environment_container(const cadence_variables *variables, const uint8_t *cgroup, size_t cgroup_len,
                                        uint64_t inode, uint8_t *out, size_t out_len, size_t *length, uint32_t *variable);
 
+/* Writes the default external data of a client into `out`, and returns what cadence_destination returns. They are empty
+ * unless DD_ORIGIN_DETECTION_ENABLED says yes. Then they are the text of DD_EXTERNAL_ENV without bars and control
+ * characters of ASCII. It has to be UTF-8, but is not tested if it isn't wanted. It is meant for a caller that has no
+ * external data of its own. */
+uint32_t cadence_environment_external(const cadence_variables *variables, uint8_t *out, size_t out_len, size_t *length,
+                                      uint32_t *variable);
+
+/* Sets *cardinality to the number of the default cardinality: the one that DD_CARDINALITY says, or if it isn't set the one
+ * that DATADOG_CARDINALITY says, or CADENCE_NO_CARDINALITY if neither is set. Only these two are tested, and the second
+ * one only if the first one isn't set. Needs no client. Returns CADENCE_OK; or CADENCE_VARIABLE, with the number of the
+ * variable in *variable, or CADENCE_NO_MEMORY, with *cardinality unchanged. It is meant for a caller that has no
+ * cardinality of its own. */
+uint32_t cadence_environment_cardinality(const cadence_variables *variables, uint32_t *cardinality, uint32_t *variable);
+
 /* Writes the message for a variable that can't be used into `out`: its name, and what its value has to be. Sets *length
  * to the length of that text in bytes. Returns CADENCE_OK; CADENCE_TOO_SMALL, with that length; or CADENCE_INVALID or
  * CADENCE_NO_MEMORY, with *length 0. */
@@ -586,7 +633,7 @@ static inline const char *cadence_status_text(uint32_t status) {
     case CADENCE_NOT_UTF8: return "a text is not UTF-8 (CADENCE_NOT_UTF8)";
     case CADENCE_NO_PACKET: return "no packet waits (CADENCE_NO_PACKET)";
     case CADENCE_TOO_SMALL: return "the buffer is too small (CADENCE_TOO_SMALL)";
-    case CADENCE_SEPARATOR: return "a text has a separator, and the settings are strict (CADENCE_SEPARATOR)";
+    case CADENCE_SEPARATOR: return "a text has a separator that is refused (CADENCE_SEPARATOR)";
     case CADENCE_VARIABLE: return "a variable of the environment can't be used (CADENCE_VARIABLE)";
     case CADENCE_UNFIT_NAME: return "separator in the name of a service check (CADENCE_UNFIT_NAME)";
     case CADENCE_UNFIT_HOST: return "separator in the host (CADENCE_UNFIT_HOST)";
@@ -605,26 +652,29 @@ static inline size_t cadence_length_of(const char *text) {
 
 /* Returns the name of a variable, or null if none has the number. */
 static inline const char *cadence_variable_name(uint32_t variable) {
-    static const char *const names[] = { "DD_DOGSTATSD_URL", "DD_DOGSTATSD_SOCKET", "DD_AGENT_HOST", "DD_DOGSTATSD_PORT",
-                                         "STATSD_HOST",      "STATSD_PORT",         "DD_ENV",        "DD_SERVICE",
-                                         "DD_VERSION",       "DD_TAGS",             "DD_ENTITY_ID",  "DD_DOGSTATSD_DISABLE",
-                                         "STATSD_ENABLED",   "STATSD_MAXUDPSIZE",   "STATSD_PREFIX", "DD_ORIGIN_DETECTION_ENABLED",
-                                         "STATSD_IPV6" };
+    static const char *const names[] = {
+        "DD_DOGSTATSD_URL", "DD_DOGSTATSD_SOCKET", "DD_AGENT_HOST",  "DD_DOGSTATSD_PORT",
+        "STATSD_HOST",      "STATSD_PORT",         "DD_ENV",         "DD_SERVICE",
+        "DD_VERSION",       "DD_TAGS",             "DD_ENTITY_ID",   "DD_DOGSTATSD_DISABLE",
+        "STATSD_ENABLED",   "STATSD_MAXUDPSIZE",   "STATSD_PREFIX",  "DD_ORIGIN_DETECTION_ENABLED",
+        "STATSD_IPV6",      "DD_EXTERNAL_ENV",     "DD_CARDINALITY", "DATADOG_CARDINALITY",
+    };
     return variable < sizeof names / sizeof names[0] ? names[variable] : CADENCE_NULL;
 }
 
 /* Returns the values of the variables, each as a function returns it for its name, or null if it isn't set: for example
  * getenv. They point to the values, so keep these alive. */
 static inline cadence_variables cadence_variables_of(char *(*value_of)(const char *name)) {
-    const char *at[17];
-    for (uint32_t i = 0; i < 17; i++) at[i] = value_of(cadence_variable_name(i));
+    const char *at[20];
+    for (uint32_t i = 0; i < 20; i++) at[i] = value_of(cadence_variable_name(i));
     cadence_variables variables;
 #define CADENCE_SET(field, i) (variables.field = CADENCE_BYTES(at[i]), variables.field##_len = cadence_length_of(at[i]))
     CADENCE_SET(url, 0), CADENCE_SET(socket, 1), CADENCE_SET(agent_host, 2), CADENCE_SET(agent_port, 3);
     CADENCE_SET(statsd_host, 4), CADENCE_SET(statsd_port, 5), CADENCE_SET(env, 6), CADENCE_SET(service, 7);
     CADENCE_SET(version, 8), CADENCE_SET(tags, 9), CADENCE_SET(entity_id, 10), CADENCE_SET(disable, 11);
     CADENCE_SET(enabled, 12), CADENCE_SET(max_size, 13), CADENCE_SET(prefix, 14), CADENCE_SET(origin, 15);
-    CADENCE_SET(ipv6, 16);
+    CADENCE_SET(ipv6, 16), CADENCE_SET(external, 17), CADENCE_SET(cardinality, 18);
+    CADENCE_SET(datadog_cardinality, 19);
 #undef CADENCE_SET
     return variables;
 }
@@ -720,6 +770,19 @@ static inline uint32_t cadence_settings_make_cleaned(cadence_settings *settings,
                                                      const cadence_tag *tags, size_t tags_len, const char *container,
                                                      uint8_t *room, size_t room_len, size_t *needed) {
     return cadence_settings_make_as(settings, prefix, tags, tags_len, container, false, true, room, room_len, needed);
+}
+
+/* Gives settings external data, which may be null for none, and a default cardinality. The settings point to the text,
+ * so keep it alive. Returns CADENCE_OK; CADENCE_SEPARATOR if the text has a '|' or a newline, also if the settings are not
+ * strict; or CADENCE_INVALID for the cardinality; after these two the settings are as they were. */
+static inline uint32_t cadence_settings_enrich(cadence_settings *settings, const char *external, uint32_t cardinality) {
+    const size_t length = cadence_length_of(external);
+    if (length != 0 && strpbrk(external, "|\n") != CADENCE_NULL) return CADENCE_SEPARATOR;
+    if (cardinality > CADENCE_CARDINALITY_HIGH) return CADENCE_INVALID;
+    settings->external = CADENCE_BYTES(external);
+    settings->external_len = length;
+    settings->cardinality = cardinality;
+    return CADENCE_OK;
 }
 
 /* Keeps a metric of one whole number, like cadence_signed. */

@@ -57,10 +57,11 @@ const char *cadence_udp_connect(cadence_udp *to, const char *host, uint16_t port
 const char *cadence_udp_connect_path(cadence_udp *to, const char *path, size_t capacity, uint32_t period_millis);
 
 /* The same, but the client sends where the variables of the environment say, and `settings` have the prefix, which gets
- * a dot at its end if it has none, and the tags of the variables, and the container of the process if a variable says so. If `prefix` is null, it is
- * that of the variables. Their texts stay until the client is closed. If `capacity` is 0, it is what cadence_destination says. If the
- * variables say that nothing is sent, the client drops each packet as if it were sent. If STATSD_IPV6 says yes, a host is
- * looked up for addresses of IPv6 alone. */
+ * a dot at its end if it has none, the tags and the cardinality of the variables, and the container and the external data
+ * of the process if a variable says so. If `prefix` is null, it is that of the variables. Their texts stay until the
+ * client is closed. If `capacity` is 0, it is what cadence_destination says. If the variables say that nothing is sent,
+ * the client drops each packet as if it were sent. If STATSD_IPV6 says yes, a host is looked up for addresses of IPv6
+ * alone. */
 const char *cadence_udp_connect_environment(cadence_udp *to, const char *prefix, size_t capacity,
                                             uint32_t period_millis);
 

@@ -43,7 +43,7 @@ UNSENT = [
 
 # The name of a case, the words, the environment and the input; then the status, the output and the errors.
 SEND_CASES = [
-    ('the version', ['--version'], {}, b'', 0, b'statsd_send 0.8.0\n', b''),
+    ('the version', ['--version'], {}, b'', 0, b'statsd_send 0.9.0\n', b''),
     *[(f'{name} is {text}', ONE, {name: text}, b'', 2, b'', error_lines(f'{name} wants {WANTED[name]}'.encode()))
       for name, text in MALFORMED],
     ('one metric', ['--print', *ONE], OVERRIDDEN, b'', 0, report_line(ONE_SENT), b''),

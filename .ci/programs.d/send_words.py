@@ -20,8 +20,8 @@ NO_HOST = 'a' * 64
 EVENT_FIELDS = ('--host web-1 --aggregation-key deploy --priority low --source jenkins --alert success --time 7 --tag k:v'
                 ' --container id').split()
 EACH = '--prefix p --tag k:v --tag w --container id --time +.7e1 --rate 5e-1'.split()
-OPTIONS = (b'--to --prefix --tag --container --time --rate --sample --capacity --flush-every --aggregate --wait --drop --strict --clean '
-           b'--print --help --version --host --aggregation-key --priority --source --alert --message').split()
+OPTIONS = (b'--to --prefix --tag --container --cardinality --time --rate --sample --capacity --flush-every --aggregate --wait --drop '
+           b'--strict --clean --print --help --version --host --aggregation-key --priority --source --alert --message').split()
 WANTS_WORDS = b'wants KIND NAME VALUE [TAG ..], as in `c visits 1 page:home`'
 WANTS_KIND = b'KIND is c, ms, g, m, h, s, d or the name of one, as in `count visits 1`'
 WANTS_NAME = b'NAME has no colon, comma, bar or newline, as in `c site.visits 1`'
@@ -80,6 +80,8 @@ UNUSABLE = [
     (['--prefix', 'a|b'], b'--prefix a|b: wants a name without colons, commas and bars, as in --prefix my.service'),
     (['--tag', 'a,b'], b'--tag a,b: wants K:V or V, as in --tag env:live'),
     (['--container', 'a,b'], b'--container a,b: wants an id, as in --container 9f2c'),
+    *[(['--cardinality', word], b'--cardinality %s: wants none, low, orchestrator or high, as in --cardinality low' % word.encode())
+      for word in ['', 'Low', 'low ']],
     *[(['--rate', rate], b'--rate %s: wants a number above 0, as in --rate 0.1' % rate.encode()) for rate in ['-1', '0.0', '-0e9', '1e']],
     *[(['--sample', chance], b'--sample %s: wants a number above 0 and at most 1 with at most 18 decimal places, as in --sample 0.1'
        % chance.encode()) for chance in ['0', '-.5', '1.01', '1e-19', 'x']],
@@ -123,9 +125,9 @@ UNUSABLE = [
         (ONE, b'a metric', [['--host', 'h'], ['--aggregation-key', 'k'], ['--priority', 'low'], ['--source', 's'], ['--alert', 'info'],
                             ['--message', 'm']]),
         ([], b'a metric', [['--alert', 'info']]),
-        (EVENT, b'an event', [['--message', 'm'], ['--rate', '0.5'], ['--sample', '0.5']]),
+        (EVENT, b'an event', [['--message', 'm'], ['--rate', '0.5'], ['--sample', '0.5'], ['--cardinality', 'low']]),
         (CHECK, b'a service check', [['--aggregation-key', 'k'], ['--priority', 'low'], ['--source', 's'], ['--alert', 'info'],
-                                     ['--rate', '0.5'], ['--sample', '0.5']]),
+                                     ['--rate', '0.5'], ['--sample', '0.5'], ['--cardinality', 'low']]),
     ] for option in options],
 ]
 # Words that are no options of the program, each with a part of the message.
@@ -154,6 +156,8 @@ WRITTEN = [
     (['--to', 'host:1', '--to', 'unix:/nowhere', '--strict', '--strict', *ONE], ONE_SENT),
     (['c', 'a', '1', '--', '--prefix', '-1'], b'a:1|c|#--prefix,-1\n'),
     (['g', 'load', '-1.5'], b'load:-1.5|g\n'),
+    *[(['--cardinality', word, *ONE], b'visits:1|c|#page:home|card:%s\n' % word.encode()) for word in ['none', 'low', 'orchestrator', 'high']],
+    ([*EACH, '--cardinality', 'high', '--cardinality', 'low', 'c', 'a', '1'], b'p.a:1|c|@0.5|#k:v,w|c:id|card:low|T7\n'),
     (['d', 'x', '-1,2'], b'x:-1:2|d\n'),
     (['c', ' a', '1'], b' a:1|c\n'),
     (['g', 'load', '-.5e1'], b'load:-5|g\n'),

@@ -21,7 +21,7 @@ EVENT = OTHERS[0][0]
 
 def watch_cases(program):
     """Yields runs of statsd_watch: what it prints for packets of which some have lines that can't be read."""
-    yield 'the version', result_of([program, '--version'], b''), (0, b'statsd_watch 0.8.0\n', b'')
+    yield 'the version', result_of([program, '--version'], b''), (0, b'statsd_watch 0.9.0\n', b'')
     status, text, errors = result_of([program, '--help'], b'')
     yield 'help', (status, b'--strict' in text, errors), (0, True, b'')
     yield from foreign_cases(program)

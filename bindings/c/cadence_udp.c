@@ -191,34 +191,47 @@ static void read_groups(struct groups *to) {
     if (stat(to->path, &found) == 0) to->inode = found.st_ino;
 }
 
-/* Makes the settings of a prefix, which is that of the variables if it is null, and of the tags and the container that the
- * variables say. */
+/* Sets how long the texts are that the variables say, and the cardinality, and returns CADENCE_OK. */
+static uint32_t measure(cadence_settings *made, const cadence_variables *variables, const struct groups *groups,
+                        size_t *prefix_len, uint32_t *variable) {
+    const uint8_t *const text = CADENCE_BYTES(groups->text);
+    uint32_t status = cadence_environment_prefix(variables, NULL, 0, prefix_len, variable);
+    if (status != CADENCE_OK && status != CADENCE_TOO_SMALL) return status;
+    status = cadence_environment_tags(variables, NULL, 0, &made->tags_len, variable);
+    if (status != CADENCE_OK && status != CADENCE_TOO_SMALL) return status;
+    status = cadence_environment_container(variables, text, groups->len, groups->inode, NULL, 0, &made->container_len, variable);
+    if (status != CADENCE_OK && status != CADENCE_TOO_SMALL) return status;
+    status = cadence_environment_external(variables, NULL, 0, &made->external_len, variable);
+    if (status != CADENCE_OK && status != CADENCE_TOO_SMALL) return status;
+    return cadence_environment_cardinality(variables, &made->cardinality, variable);
+}
+
+/* Makes the settings of a prefix, which is that of the variables if it is null, and of the tags, the container, the external
+ * data and the cardinality that the variables say. */
 static uint32_t make_settings(cadence_udp *to, const char *prefix, const cadence_variables *variables,
                               const struct groups *groups, uint32_t *variable) {
     cadence_settings made = CADENCE_NO_SETTINGS;
     size_t len = 0;
-    uint32_t status = cadence_environment_prefix(variables, NULL, 0, &len, variable);
-    if (status != CADENCE_OK && status != CADENCE_TOO_SMALL) return status;
+    uint32_t status = measure(&made, variables, groups, &len, variable);
+    if (status != CADENCE_OK) return status;
     const uint8_t *const given = prefix != NULL ? CADENCE_BYTES(prefix) : variables->prefix;
     const size_t room = (prefix != NULL ? strlen(prefix) : len) + 1;
-    status = cadence_environment_tags(variables, NULL, 0, &made.tags_len, variable);
-    if (status != CADENCE_OK && status != CADENCE_TOO_SMALL) return status;
-    const uint8_t *const text = CADENCE_BYTES(groups->text);
-    status = cadence_environment_container(variables, text, groups->len, groups->inode, NULL, 0, &made.container_len, variable);
-    if (status != CADENCE_OK && status != CADENCE_TOO_SMALL) return status;
-    uint8_t *const texts = to->socket->texts = malloc(room + made.tags_len + made.container_len);
+    uint8_t *const texts = to->socket->texts = malloc(room + made.tags_len + made.container_len + made.external_len);
     if (texts == NULL) return CADENCE_NO_MEMORY;
-    uint8_t *const tags = texts + room, *const container = tags + made.tags_len;
+    uint8_t *const tags = texts + room, *const container = tags + made.tags_len, *const external = container + made.container_len;
     made.prefix = texts;
     made.tags = tags;
     made.container = container;
     made.contained = made.container_len != 0;
+    made.external = external;
     status = cadence_prefix_text(given, room - 1, false, false, texts, room, &made.prefix_len);
     if (status == CADENCE_OK)
         status = cadence_environment_tags(variables, tags, made.tags_len, &made.tags_len, variable);
     if (status == CADENCE_OK)
-        status = cadence_environment_container(variables, text, groups->len, groups->inode, container, made.container_len,
-                                               &made.container_len, variable);
+        status = cadence_environment_container(variables, CADENCE_BYTES(groups->text), groups->len, groups->inode, container,
+                                               made.container_len, &made.container_len, variable);
+    if (status == CADENCE_OK)
+        status = cadence_environment_external(variables, external, made.external_len, &made.external_len, variable);
     if (status == CADENCE_OK) to->settings = made;
     return status;
 }

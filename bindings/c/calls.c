@@ -16,7 +16,7 @@ static const cadence_options none = CADENCE_NO_OPTIONS;
 static const int64_t one = 1;
 static const uint64_t nanos = 1, two[] = { 1, 2 };
 static const cadence_decimal_number many_places = { 1, 31 };
-static const cadence_settings nothing = CADENCE_NO_SETTINGS, bad_prefix = { BAD, NULL, 0, NULL, 0, false, false, false };
+static const cadence_settings nothing = CADENCE_NO_SETTINGS, bad_prefix = { BAD, NULL, 0, NULL, 0, false, false, false, NULL, 0, 0 };
 
 static void fail(const char *what, int line) {
     printf("calls.c:%d: %s\n", line, what);
@@ -226,17 +226,17 @@ static void order_of_a_client(void) {
 /* Returns whether a text has this status in each place of a call, and where a text alone is tested. */
 static bool has_status(const uint8_t *text, size_t len, uint32_t status) {
     const cadence_tag keyed = { text, len, BYTES("v"), true }, alone = { NULL, 0, text, len, false };
-    cadence_settings prefix = nothing, tags = nothing, container = nothing;
+    cadence_settings prefix = nothing, tags = nothing, container = nothing, external = nothing;
     cadence_options contained = none;
     const cadence_options key_of_tag = cadence_options_of(&keyed, 1), text_of_tag = cadence_options_of(&alone, 1);
     uint8_t out[128];
     size_t length;
-    prefix.prefix = tags.tags = container.container = contained.container = text;
-    prefix.prefix_len = tags.tags_len = container.container_len = contained.container_len = len;
+    prefix.prefix = tags.tags = container.container = external.external = contained.container = text;
+    prefix.prefix_len = tags.tags_len = container.container_len = external.external_len = contained.container_len = len;
     container.contained = contained.contained = true;
 #define LINE(settings, options) cadence_format_signed(&settings, 0, BYTES("k"), &one, 1, &options, out, sizeof out, &length)
     return cadence_test_text(text, len) == status && LINE(prefix, none) == status && LINE(tags, none) == status
-        && LINE(container, none) == status && LINE(nothing, contained) == status && LINE(nothing, key_of_tag) == status
+        && LINE(container, none) == status && LINE(external, none) == status && LINE(nothing, contained) == status && LINE(nothing, key_of_tag) == status
         && LINE(nothing, text_of_tag) == status
         && cadence_format_signed(&nothing, 0, text, len, &one, 1, &none, out, sizeof out, &length) == status;
 #undef LINE
@@ -329,16 +329,17 @@ static void order_of_a_line(void) {
     const cadence_tag bad_tag = { NULL, 0, BAD, false };
     const cadence_options bad_tags = cadence_options_of(&bad_tag, 1);
     const cadence_settings settings[] = { nothing, cadence_settings_of("p."), bad_prefix,
-                                          { NULL, 0, BAD, NULL, 0, false, false, false },
-                                          { NULL, 0, NULL, 0, BAD, true, false, false },
-                                          { NULL, 0, NULL, 0, BAD, false, false, false } };
+                                          { NULL, 0, BAD, NULL, 0, false, false, false, NULL, 0, 0 },
+                                          { NULL, 0, NULL, 0, BAD, true, false, false, NULL, 0, 0 },
+                                          { NULL, 0, NULL, 0, NULL, 0, false, false, false, BAD, 0 },
+                                          { NULL, 0, NULL, 0, BAD, false, false, false, NULL, 0, 0 } };
     size_t length = 9;
     CHECK(cadence_format_duration(&bad_prefix, 9, BAD, &nanos, 1, &none, NULL, 0, &length) == CADENCE_INVALID && length == 0);
     CHECK(cadence_format_signed(&nothing, 9, BAD, &one, 1, &none, NULL, 0, &length) == CADENCE_NOT_UTF8);
     CHECK(cadence_format_signed(&nothing, 9, BYTES("k"), &one, 1, &bad_tags, NULL, 0, &length) == CADENCE_INVALID);
     CHECK(cadence_format_signed(&nothing, 0, BYTES("k"), &one, 1, &bad_tags, NULL, 0, &length) == CADENCE_NOT_UTF8);
-    for (int i = 0; i < 6; i++) {
-        const bool bad = i >= 2 && i <= 4; /* the last container is not read, since it is not set */
+    for (int i = 0; i < 7; i++) {
+        const bool bad = i >= 2 && i <= 5; /* the last container is not read, since it is not set */
         const uint32_t status = cadence_format_signed(&settings[i], 0, BYTES("k"), &one, 1, &none, NULL, 0, &length);
         CHECK(status == (bad ? CADENCE_NOT_UTF8 : CADENCE_TOO_SMALL) && length == (bad ? 0 : i == 1 ? 7 : 5));
     }
@@ -489,6 +490,60 @@ static void cleaned_calls(void) {
     cadence_free(&handle);
 }
 
+/* Returns whether a call with the cardinalities of these numbers, and with these external data, keeps the line that ends
+ * with these texts, or is refused if a number is unknown. */
+static bool enriches(cadence_handle *handle, const char *external, uint32_t ours, uint32_t own) {
+    static const char *const texts[] = { "", "|card:none", "|card:low", "|card:orchestrator", "|card:high" };
+    const cadence_tag tag = cadence_tag_of("k", "v");
+    cadence_settings settings = CADENCE_NO_SETTINGS;
+    cadence_options options = cadence_options_of(&tag, 1);
+    char line[128];
+    settings.container = (const uint8_t *)"id", settings.container_len = 2, settings.contained = true;
+    settings.external = (const uint8_t *)external, settings.external_len = strlen(external), settings.cardinality = ours;
+    options.time = 5, options.timed = true, options.cardinality = own;
+    const uint32_t status = cadence_count(handle, &settings, "c", 1, &options);
+    if (ours > CADENCE_CARDINALITY_HIGH || own > CADENCE_CARDINALITY_HIGH) return status == CADENCE_INVALID;
+    snprintf(line, sizeof line, "c:1|c|#k:v|c:id%s%s%s|T5\n", *external != '\0' ? "|e:" : "", external,
+             texts[own != CADENCE_NO_CARDINALITY ? own : ours]);
+    return status == CADENCE_OK && sends(handle, line);
+}
+
+/* The external data of settings, and the cardinalities of settings and of options, which replace those. */
+static void enrichments(void) {
+    static const uint32_t numbers[] = { 0, 1, 2, 3, 4, 5, 7, 8, 256, 257, UINT32_C(1) << 31, UINT32_MAX };
+    enum { NUMBERS = sizeof numbers / sizeof numbers[0] };
+    cadence_handle handle = opened(256, CADENCE_REFUSE);
+    cadence_settings settings = cadence_settings_of("p");
+    cadence_options options = none;
+    for (int i = 0; i < NUMBERS; i++)
+        for (int j = 0; j < NUMBERS; j++)
+            CHECK(enriches(&handle, "", numbers[i], numbers[j]) && enriches(&handle, "cn-web,pu-4a:\xc3\xa9", numbers[i], numbers[j]));
+    CHECK(cadence_settings_enrich(&settings, "cn-web,it-false", CADENCE_CARDINALITY_LOW) == CADENCE_OK);
+    CHECK(cadence_settings_enrich(&settings, "a|b", CADENCE_NO_CARDINALITY) == CADENCE_SEPARATOR);
+    CHECK(cadence_settings_enrich(&settings, "a\nb", CADENCE_NO_CARDINALITY) == CADENCE_SEPARATOR);
+    CHECK(cadence_settings_enrich(&settings, NULL, 5) == CADENCE_INVALID);
+    CHECK(cadence_gauge(&handle, &settings, "g", 5, NULL) == CADENCE_OK && sends(&handle, "p.g:5|g|e:cn-web,it-false|card:low\n"));
+    CHECK(cadence_change(&handle, &settings, "g", 5, NULL) == CADENCE_OK && sends(&handle, "p.g:+5|g|e:cn-web,it-false|card:low\n"));
+    CHECK(cadence_set_text(&handle, &settings, "s", "m", NULL) == CADENCE_OK && sends(&handle, "p.s:m|s|e:cn-web,it-false|card:low\n"));
+    options.cardinality = CADENCE_CARDINALITY_NONE;
+    settings.cleaned = true;
+    CHECK(cadence_count(&handle, &settings, "a:b", 1, &options) == CADENCE_OK && sends(&handle, "p.a_b:1|c|e:cn-web,it-false|card:none\n"));
+    settings.strict = true;
+    CHECK(cadence_count(&handle, &settings, "a", 1, &options) == CADENCE_OK && sends(&handle, "p.a:1|c|e:cn-web,it-false|card:none\n"));
+    CHECK(cadence_settings_enrich(&settings, NULL, CADENCE_NO_CARDINALITY) == CADENCE_OK);
+    CHECK(cadence_count(&handle, &settings, "a", 1, NULL) == CADENCE_OK && sends(&handle, "p.a:1|c\n"));
+
+    /* the order: after the texts in UTF-8, and before separators */
+    options.cardinality = 5;
+    CHECK(cadence_count(&handle, &settings, "\xff", 1, &options) == CADENCE_NOT_UTF8);
+    CHECK(cadence_count(&handle, &settings, "a:b", 1, &options) == CADENCE_INVALID);
+    options.container = (const uint8_t *)"\xff", options.container_len = 1, options.contained = true;
+    CHECK(cadence_count(&handle, &settings, "a", 1, &options) == CADENCE_NOT_UTF8);
+    settings.external = (const uint8_t *)"\xff", settings.external_len = 1;
+    CHECK(cadence_count(&handle, &settings, "a", 1, NULL) == CADENCE_NOT_UTF8);
+    cadence_free(&handle);
+}
+
 static void what_stays(void) {
     cadence_handle handle = CADENCE_CLOSED;
     const cadence_tag unkeyed = { BAD, BYTES("w"), false };
@@ -565,6 +620,7 @@ int main(void) {
     strict();
     cleaned_texts();
     cleaned_calls();
+    enrichments();
     what_stays();
     held_text();
     lent_room();

@@ -1,13 +1,14 @@
 /* SPDX-License-Identifier: Apache-2.0 OR MIT */
-/* environment FILE CONTAINERS: tests what the variables of the environment say by the rows of a file, environment.rows, and
- * the container of a process by those of another one, containers.rows. It prints each row of which the library says
- * something else, and its exit status is then 1. */
+/* environment FILE CONTAINERS ENRICHMENTS: tests what the variables of the environment say by the rows of a file,
+ * environment.rows, the container of a process by those of containers.rows, and the external data and the cardinality of
+ * the variables by those of enrichments.rows. It prints each row of which the library says something else, and its exit
+ * status is then 1. */
 #include <cadence.h>
 #include <stdio.h>
 #include <stdlib.h>
 #include <string.h>
 
-enum { LONGEST = 4096, ORIGIN = 15, VARIABLES = 17 };
+enum { LONGEST = 4096, ORIGIN = 15, VARIABLES = 20 };
 
 static char values[VARIABLES][LONGEST];
 static bool is_set[VARIABLES];
@@ -62,10 +63,21 @@ static void put_tags(char *to, const char *text, size_t len) {
     *to = '\0';
 }
 
-/* Writes what the variables say as a row has it. */
-static void say(char *to) {
-    uint8_t place[256], tags[LONGEST], prefix[256], words[256];
-    size_t place_len, tags_len, prefix_len, words_len, id_len, capacity = 0;
+/* Writes a status that isn't CADENCE_OK as a row has it. */
+static void say_status(char *to, uint32_t status, uint32_t variable) {
+    uint8_t words[256];
+    size_t len;
+    if (status == CADENCE_VARIABLE && cadence_variable_text(variable, words, sizeof words, &len) == CADENCE_OK
+        && memcmp(words, cadence_variable_name(variable), strlen(cadence_variable_name(variable))) == 0)
+        sprintf(to, "refuses %s", cadence_variable_name(variable));
+    else sprintf(to, "status %u", status);
+}
+
+/* Writes what the variables say as a row has it, and returns whether all names of variables are known. */
+static bool say(char *to, char *given) {
+    if (!set_variables(given)) return false;
+    uint8_t place[256], tags[LONGEST], prefix[256];
+    size_t place_len, tags_len, prefix_len, id_len, capacity = 0;
     uint16_t port = 1;
     bool only_ipv6 = true;
     uint32_t variable = VARIABLES;
@@ -77,10 +89,7 @@ static void say(char *to) {
         status = cadence_environment_tags(&variables, tags, sizeof tags, &tags_len, &variable);
     if (status == CADENCE_OK)
         status = cadence_environment_container(&variables, NULL, 0, 0, NULL, 0, &id_len, &variable);
-    if (status == CADENCE_VARIABLE && cadence_variable_text(variable, words, sizeof words, &words_len) == CADENCE_OK
-        && memcmp(words, cadence_variable_name(variable), strlen(cadence_variable_name(variable))) == 0)
-        sprintf(to, "refuses %s", cadence_variable_name(variable));
-    else if (status != CADENCE_OK) sprintf(to, "status %u", status);
+    if (status != CADENCE_OK) say_status(to, status, variable);
     else {
         to += port != 0 ? sprintf(to, "udp %.*s %u", (int)place_len, (char *)place, port)
                         : sprintf(to, place_len != 0 ? "unix %.*s" : "nowhere%.*s", (int)place_len, (char *)place);
@@ -89,10 +98,11 @@ static void say(char *to) {
         if (prefix_len != 0) to += sprintf(to, " as %.*s", (int)prefix_len, (char *)prefix);
         put_tags(to, (char *)tags, tags_len);
     }
+    return true;
 }
 
 /* Writes what the library says of a row of containers.rows, whose number and text these are, as the row has it. */
-static void say_container(char *to, char *given) {
+static bool say_container(char *to, char *given) {
     static char text[LONGEST];
     uint8_t id[128];
     size_t len = 1;
@@ -108,12 +118,37 @@ static void say_container(char *to, char *given) {
     uint32_t status = cadence_environment_container(&off, CADENCE_BYTES(text), strlen(text), inode, id, sizeof id, &len, &variable);
     if (status == CADENCE_OK && len == 0)
         status = cadence_environment_container(&on, CADENCE_BYTES(text), strlen(text), inode, id, sizeof id, &len, &variable);
-    if (status != CADENCE_OK) sprintf(to, "status %u", status);
+    if (status != CADENCE_OK) say_status(to, status, variable);
     else sprintf(to, len != 0 ? "%.*s" : "none%.*s", (int)len, (char *)id);
+    return true;
 }
 
-/* Tests each row of a file, and returns how many differ, or -1 if fewer rows than these are there. */
-static int test_rows(const char *name, int least, bool has_containers) {
+/* Writes what the variables say as a row of enrichments.rows has it: the default external data, those if a client wants
+ * them, and the default cardinality. Returns whether all names of variables are known. */
+static bool say_enrichment(char *to, char *given) {
+    static const char *const words[] = { "-", "none", "low", "orchestrator", "high" };
+    uint8_t text[LONGEST];
+    size_t len;
+    uint32_t variable = VARIABLES, cardinality = VARIABLES;
+    char *at = to;
+    if (!set_variables(given)) return false;
+    cadence_variables variables = cadence_variables_of(value_of);
+    uint32_t status = cadence_environment_tags(&variables, text, sizeof text, &len, &variable);
+    for (int is_wanted = 0; is_wanted < 2 && status == CADENCE_OK; is_wanted++) {
+        status = cadence_environment_external(&variables, text, sizeof text, &len, &variable);
+        if (status == CADENCE_OK) at += sprintf(at, len != 0 ? "%.*s | " : "-%.*s | ", (int)len, (char *)text);
+        variables.origin = CADENCE_BYTES("1");
+        variables.origin_len = 1;
+    }
+    if (status == CADENCE_OK) status = cadence_environment_cardinality(&variables, &cardinality, &variable);
+    if (status != CADENCE_OK) say_status(to, status, variable);
+    else sprintf(at, "%s", words[cardinality]);
+    return true;
+}
+
+/* Tests each row of a file, and returns how many differ, or -1 if fewer rows than these are there or a variable is unknown.
+ * `say_row` writes what the library says of the words behind the arrow of a row. */
+static int test_rows(const char *name, int least, bool (*say_row)(char *to, char *given)) {
     static char row[LONGEST], wanted[LONGEST], said[2 * LONGEST];
     FILE *file = fopen(name, "r");
     int rows = 0, failures = 0;
@@ -124,9 +159,7 @@ static int test_rows(const char *name, int least, bool has_containers) {
         char *arrow = strstr(row, " <- ");
         if (strstr(row, "\\x00") != NULL) continue; /* the environment of a process has no such byte */
         if (arrow != NULL) *arrow = '\0';
-        if (has_containers) say_container(said, arrow + 4);
-        else if (set_variables(arrow != NULL ? arrow + 4 : "")) say(said);
-        else return -1;
+        if (!say_row(said, arrow != NULL ? arrow + 4 : row + strlen(row))) return -1;
         unescape(wanted, row, strlen(row));
         rows++;
         if (strcmp(wanted, said) != 0) failures++, printf("%s <- %s\n  is %s\n", row, arrow != NULL ? arrow + 4 : "", said);
@@ -137,7 +170,8 @@ static int test_rows(const char *name, int least, bool has_containers) {
 }
 
 int main(int argc, char **argv) {
-    if (argc != 3) return 2;
-    const int differ = test_rows(argv[1], 250, false), others = test_rows(argv[2], 45, true);
-    return differ != 0 || others != 0;
+    if (argc != 4) return 2;
+    const int variables = test_rows(argv[1], 250, say), containers = test_rows(argv[2], 45, say_container);
+    const int enrichments = test_rows(argv[3], 60, say_enrichment);
+    return variables != 0 || containers != 0 || enrichments != 0;
 }

@@ -165,6 +165,7 @@ static cadence_options some_options(void) {
     options.time = (uint64_t)below(1u << 31) << below(33);
     options.known = all_plain && plain_settings && below(2);
     options.contained = below(3) == 0, options.rated = below(3) == 0, options.timed = below(3) == 0;
+    options.cardinality = below(12) == 0 ? 5 : below(5);
     return options;
 }
 
@@ -250,7 +251,7 @@ static void compare_settings(const cadence_settings *made, text prefix, size_t c
 /* Makes settings of random texts. If a text is refused, later calls have no settings. */
 static void sets(void) {
     all_plain = true;
-    const text prefix = some_text(), container = some_text();
+    const text prefix = some_text(), container = some_text(), external = below(2) ? some_text() : (text){ NULL, 0 };
     cadence_settings made = CADENCE_NO_SETTINGS;
     bool are_clear_tags = true;
     size_t n = below(5), length = sizeof room;
@@ -258,6 +259,7 @@ static void sets(void) {
     requests = 0, refuse_at = below(4) == 0 ? 1 + below(3) : 0;
     made.strict = below(3) == 0, made.cleaned = below(3) == 0, made.contained = below(2);
     made.container = container.at, made.container_len = container.length;
+    made.external = external.at, made.external_len = external.length, made.cardinality = below(12) == 0 ? 5 : below(5);
     uint32_t status = cadence_prefix_text(prefix.at, prefix.length, made.strict, made.cleaned, room, length, &made.prefix_len);
     strictly(made.strict, is_free(prefix.at, prefix.length), status);
     made.prefix = room, made.tags = room + made.prefix_len, length -= made.prefix_len;

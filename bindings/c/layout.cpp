@@ -19,10 +19,12 @@ int main() {
     AT(cadence_settings, prefix), AT(cadence_settings, prefix_len), AT(cadence_settings, tags);
     AT(cadence_settings, tags_len), AT(cadence_settings, container), AT(cadence_settings, container_len);
     AT(cadence_settings, contained), AT(cadence_settings, strict), AT(cadence_settings, cleaned);
+    AT(cadence_settings, external), AT(cadence_settings, external_len), AT(cadence_settings, cardinality);
     std::printf("\noptions %zu", sizeof(cadence_options));
     AT(cadence_options, tags), AT(cadence_options, tags_len), AT(cadence_options, container);
     AT(cadence_options, container_len), AT(cadence_options, rate), AT(cadence_options, time);
     AT(cadence_options, contained), AT(cadence_options, rated), AT(cadence_options, timed), AT(cadence_options, known);
+    AT(cadence_options, cardinality);
     std::printf("\nevent %zu", sizeof(cadence_event_data));
     AT(cadence_event_data, title), AT(cadence_event_data, title_len), AT(cadence_event_data, text);
     AT(cadence_event_data, text_len), AT(cadence_event_data, host), AT(cadence_event_data, host_len);
@@ -51,7 +53,9 @@ int main() {
     AT(cadence_variables, enabled), AT(cadence_variables, enabled_len), AT(cadence_variables, max_size);
     AT(cadence_variables, max_size_len), AT(cadence_variables, prefix), AT(cadence_variables, prefix_len);
     AT(cadence_variables, origin), AT(cadence_variables, origin_len), AT(cadence_variables, ipv6);
-    AT(cadence_variables, ipv6_len);
+    AT(cadence_variables, ipv6_len), AT(cadence_variables, external), AT(cadence_variables, external_len);
+    AT(cadence_variables, cardinality), AT(cadence_variables, cardinality_len);
+    AT(cadence_variables, datadog_cardinality), AT(cadence_variables, datadog_cardinality_len);
     const cadence_options none = CADENCE_NO_OPTIONS;
     const cadence_settings nothing = CADENCE_NO_SETTINGS;
     const cadence_handle closed = CADENCE_CLOSED;

@@ -409,6 +409,39 @@ static void by_container(void) {
     CHECK(unsetenv("DD_ORIGIN_DETECTION_ENABLED") == 0);
 }
 
+/* The external data of the process, if a variable asks for them, and the cardinality. */
+static void by_enrichment(void) {
+    uint16_t port = 0;
+    char text[8];
+    cadence_udp out = CADENCE_UDP_CLOSED;
+    const int server = server_at("127.0.0.1", &port);
+    snprintf(text, sizeof text, "%u", port);
+    setenv("DD_AGENT_HOST", "127.0.0.1", 1);
+    setenv("DD_DOGSTATSD_PORT", text, 1);
+    setenv("DD_EXTERNAL_ENV", "it-false,|cn-web\n,pu-4a", 1);
+    setenv("DD_CARDINALITY", "low", 1);
+    setenv("DATADOG_CARDINALITY", "high", 1);
+    for (int is_wanted = 0; is_wanted < 2; is_wanted++) {
+        setenv("DD_ORIGIN_DETECTION_ENABLED", is_wanted ? "yes" : "", 1);
+        CHECK(cadence_udp_connect_environment(&out, "p", 512, HOUR) == NULL);
+        out.settings.contained = false; /* which container the process has is not known here */
+        CHECK(cadence_count(&out.client, &out.settings, "e", 1, NULL) == CADENCE_OK && cadence_udp_flush(&out) == 0);
+        CHECK(gets(server, is_wanted ? "p.e:1|c|e:it-false,cn-web,pu-4a|card:low\n" : "p.e:1|c|card:low\n"));
+    }
+    const char *const names[] = { "DD_EXTERNAL_ENV", "DATADOG_CARDINALITY", "DD_CARDINALITY" };
+    for (int i = 0; i < 3; i++) {
+        setenv(names[i], "\xff", 1);
+        if (i > 0) CHECK(unsetenv(names[i - 1]) == 0);
+        const char *const fault = cadence_udp_connect_environment(&out, "p", 512, HOUR);
+        if (i == 1) CHECK(fault == NULL); /* the other variable of the cardinality overrides it */
+        else CHECK(fault != NULL && strncmp(fault, names[i], strlen(names[i])) == 0 && out.socket == NULL);
+    }
+    cadence_udp_close(&out);
+    CHECK(unsetenv("DD_CARDINALITY") == 0 && unsetenv("DD_ORIGIN_DETECTION_ENABLED") == 0);
+    CHECK(unsetenv("DD_AGENT_HOST") == 0 && unsetenv("DD_DOGSTATSD_PORT") == 0);
+    close(server);
+}
+
 int main(int argc, char **argv) {
     char path[108];
     if (argc != 3 || (size_t)snprintf(path, sizeof path, "%s/udp.sock", argv[1]) >= sizeof path) return 2;
@@ -424,5 +457,6 @@ int main(int argc, char **argv) {
     by_ipv6();
     by_telemetry(path);
     by_container();
+    by_enrichment();
     return failures != 0;
 }

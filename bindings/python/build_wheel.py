@@ -47,7 +47,7 @@ def library():
             return path
     told = f"CADENCE_LIB is {named}" if named else "CADENCE_LIB is not set"
     sys.exit(f"statsd-proved: {told}, and libcadence_c.a is not in {folder}: set CADENCE_LIB to the folder that it is in, "
-             "as in CADENCE_LIB=/opt/cadence_c-0.8.0/lib")
+             "as in CADENCE_LIB=/opt/cadence_c-0.9.0/lib")
 
 
 def archive():

@@ -8,7 +8,7 @@ use std::{env, fs};
 const LIBRARY: &str = "libcadence_c.a";
 
 /// The version of the library for which this crate is written.
-pub const VERSION: &str = "0.8.0";
+pub const VERSION: &str = "0.9.0";
 
 /// What the error says that a user can do about a missing library.
 const CURE: &str = "Set CADENCE_LIB to the absolute path of the folder that has libcadence_c.a, which is lib/ in the \

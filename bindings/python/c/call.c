@@ -11,16 +11,29 @@ bool time_of(PyObject *time, bool *timed, uint64_t *to) {
     return !PyErr_Occurred();
 }
 
-/* Reads the options of a call but its tags: its rate if there is one, its container, and its time. Returns false if it has set
- * an exception. */
-static bool read_options(call *c, PyObject *rate, PyObject *container, PyObject *time) {
+bool number_of(PyObject *value, const char *what, const char *const *names, uint32_t count, uint32_t *to) {
+    if (value == Py_None) return true;
+    for (uint32_t i = 0; i < count && PyUnicode_Check(value); i++)
+        if (PyUnicode_CompareWithASCIIString(value, names[i]) == 0) return *to = i + 1, true;
+    PyErr_Format(PyExc_ValueError, "%R is no %s", value, what);
+    return false;
+}
+
+bool cardinality_of(PyObject *value, uint32_t *to) {
+    static const char *const names[] = { "none", "low", "orchestrator", "high" };
+    return number_of(value, "cardinality (none, low, orchestrator, high)", names, 4, to);
+}
+
+/* Reads the options of a call but its tags: its rate if there is one, its container, its time, and its cardinality. Returns
+ * false if it has set an exception. */
+static bool read_options(call *c, PyObject *rate, PyObject *container, PyObject *time, PyObject *cardinality) {
     c->options.known = true; /* what text_of gives is UTF-8 */
     c->options.rated = rate != NULL;
     if (c->options.rated && !decimal_of(rate, false, &c->options.rate)) return false;
     c->options.contained = container != Py_None;
     if (c->options.contained && !text_of(container, &c->tags.texts, &c->options.container, &c->options.container_len))
         return false;
-    return time_of(time, &c->options.timed, &c->options.time);
+    return time_of(time, &c->options.timed, &c->options.time) && cardinality_of(cardinality, &c->options.cardinality);
 }
 
 bool call_begin(call *c, uint32_t kind, long form, PyObject *const *args) {
@@ -45,7 +58,7 @@ bool call_begin(call *c, uint32_t kind, long form, PyObject *const *args) {
         if (!text_of(args[AT_VALUE], NULL, &c->text, &c->text_len)) return false;
         c->values.len = 1;
     } else if (!values_begin(&c->values, args[AT_VALUE], kind == CADENCE_TIMER)) return false;
-    if (!read_options(c, args[AT_RATE], args[AT_CONTAINER], args[AT_TIMESTAMP])) return false;
+    if (!read_options(c, args[AT_RATE], args[AT_CONTAINER], args[AT_TIMESTAMP], args[AT_CARDINALITY])) return false;
     if (!tags_begin(&c->tags, args[AT_TAGS])) return false;
     c->options.tags = c->tags.at;
     c->options.tags_len = c->tags.len;

@@ -26,7 +26,7 @@ enum { AT_DELTA = ARGUMENTS, ALL }; /* the place of `delta` */
 
 /* Returns the place of an argument that is given by name, or -1. */
 static int place_of(const shape *of, PyObject *word) {
-    const char *const names[ALL] = { "stat", of->value, "rate", "tags", "container", "timestamp", "delta" };
+    const char *const names[ALL] = { "stat", of->value, "rate", "tags", "container", "timestamp", "cardinality", "delta" };
     Py_ssize_t len = 0;
     const char *const text = PyUnicode_AsUTF8AndSize(word, &len);
     for (int i = 0; text != NULL && i < (of->has_delta ? ALL : ARGUMENTS); i++)
@@ -70,7 +70,7 @@ static bool bind(const shape *of, PyObject **to, PyObject *const *args, Py_ssize
     }
     const bool lacks_stat = to[AT_STAT] == NULL, lacks_value = to[AT_VALUE] == NULL && !of->has_value;
     if (lacks_stat || lacks_value) return lacks(of, lacks_stat, lacks_value);
-    for (int i = AT_TAGS; i <= AT_TIMESTAMP; i++)
+    for (int i = AT_TAGS; i <= AT_CARDINALITY; i++)
         if (to[i] == NULL) to[i] = Py_None;
     return true;
 }
@@ -215,7 +215,7 @@ static void calls_dealloc(calls *self) {
     Py_DECREF(type);
 }
 
-#define REST "rate=1, *, tags=None, container=None, timestamp=None)\n--\n\n"
+#define REST "rate=1, *, tags=None, container=None, timestamp=None, cardinality=None)\n--\n\n"
 #define METHOD(call, start, says) \
     { #call, (PyCFunction)(void (*)(void))call, METH_FASTCALL | METH_KEYWORDS, #call "($self, stat, " start REST says }
 
@@ -223,7 +223,7 @@ static PyMethodDef methods[] = {
     METHOD(incr, "count=1, ", "Adds `count` to a counter."),
     METHOD(decr, "count=1, ", "Subtracts `count` from a counter."),
     { "gauge", (PyCFunction)(void (*)(void))gauge, METH_FASTCALL | METH_KEYWORDS,
-      "gauge($self, stat, value, rate=1, delta=False, *, tags=None, container=None, timestamp=None)\n--\n\n"
+      "gauge($self, stat, value, rate=1, delta=False, *, tags=None, container=None, timestamp=None, cardinality=None)\n--\n\n"
       "Sets a gauge, or changes it by the value if `delta` is set. A gauge that is set to a value below 0 is set to\n"
       "0 first, in the same packet and without the rate, because a server reads a value with a sign as a change." },
     METHOD(set, "value, ",

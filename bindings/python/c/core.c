@@ -73,14 +73,29 @@ static uint32_t make_texts(packer *self, const uint8_t *prefix, size_t prefix_le
     return status;
 }
 
+/* Reads the external data and the cardinality of the settings. Returns false if it has set an exception. */
+static bool read_enrichment(packer *self, PyObject *external, PyObject *cardinality) {
+    cadence_settings *to = &self->settings;
+    if (!cardinality_of(cardinality, &to->cardinality)) return false;
+    if (external == Py_None) return true;
+    if (!text_of(external, &self->kept, &to->external, &to->external_len)) return false;
+    for (size_t i = 0; i < to->external_len; i++)
+        if (to->external[i] == '|' || to->external[i] == '\n') {
+            PyErr_Format(PyExc_ValueError, "external data have no bar and no newline, and these are %R", external);
+            return false;
+        }
+    return true;
+}
+
 /* Makes the settings and the client. Returns false if it has set an exception. */
-static bool begin(packer *self, PyObject *prefix, PyObject *container, const tags_of_call *tags) {
+static bool begin(packer *self, PyObject *prefix, PyObject *container, PyObject *external, PyObject *cardinality,
+                  const tags_of_call *tags) {
     const uint8_t *text;
     size_t len;
     if (!text_of(prefix, NULL, &text, &len)) return false;
     self->settings.contained = container != Py_None;
-    self->kept = Py_BuildValue("[O]", container);
-    if (self->kept == NULL) return false;
+    self->kept = Py_BuildValue("[OO]", container, external);
+    if (self->kept == NULL || !read_enrichment(self, external, cardinality)) return false;
     if (self->settings.contained && !text_of(container, &self->kept, &self->settings.container, &self->settings.container_len))
         return false;
     uint32_t status = make_texts(self, text, len, tags);
@@ -89,12 +104,13 @@ static bool begin(packer *self, PyObject *prefix, PyObject *container, const tag
 }
 
 static int packer_init(packer *self, PyObject *args, PyObject *named) {
-    static char *names[] = { "prefix", "capacity", "packets", "strict", "clean", "tags", "container", "adds_up", NULL };
-    PyObject *prefix, *tags = Py_None, *container = Py_None;
+    static char *names[] = { "prefix", "capacity", "packets", "strict", "clean", "tags", "container", "external", "cardinality",
+                             "adds_up", NULL };
+    PyObject *prefix, *tags = Py_None, *container = Py_None, *external = Py_None, *cardinality = Py_None;
     Py_ssize_t capacity, packets;
     int strict = 0, clean = 0, adds_up = 0;
-    if (!PyArg_ParseTupleAndKeywords(args, named, "Unn|ppOOp", names, &prefix, &capacity, &packets, &strict, &clean, &tags, &container,
-                                     &adds_up))
+    if (!PyArg_ParseTupleAndKeywords(args, named, "Unn|ppOOOOp", names, &prefix, &capacity, &packets, &strict, &clean, &tags,
+                                     &container, &external, &cardinality, &adds_up))
         return -1;
     if (self->texts != NULL || self->kept != NULL || capacity < 0 || packets < 0) {
         PyErr_SetString(PyExc_ValueError, "a Packer is made once, of a capacity and packets from 0 on");
@@ -109,7 +125,7 @@ static int packer_init(packer *self, PyObject *args, PyObject *named) {
     tags_of_call defaults = { .len = 0 };
     bool made = tags_copy(&defaults, tags);
     if (made && clean) tags_cut(&defaults);
-    made = made && begin(self, prefix, container, &defaults);
+    made = made && begin(self, prefix, container, external, cardinality, &defaults);
     tags_end(&defaults);
     return made ? 0 : -1;
 }
@@ -176,7 +192,7 @@ int packer_metric(packer *self, uint32_t kind, long form, PyObject *const *args)
 }
 
 static PyObject *packer_count(packer *self, PyObject *args) {
-    PyObject *given[ARGUMENTS] = { NULL, NULL, NULL, Py_None, Py_None, Py_None };
+    PyObject *given[ARGUMENTS] = { NULL, NULL, NULL, Py_None, Py_None, Py_None, Py_None };
     if (!PyArg_ParseTuple(args, "OO", &given[AT_STAT], &given[AT_VALUE])) return NULL;
     return answered(packer_metric(self, CADENCE_COUNTER, PLAIN, given));
 }
@@ -270,8 +286,8 @@ static PyMethodDef methods[] = {
 };
 
 static PyType_Slot slots[] = {
-    { Py_tp_doc, "Packer(prefix, capacity, packets, strict=False, clean=False, tags=None, container=None, adds_up=False): makes lines and packs "
-                  "them into packets." },
+    { Py_tp_doc, "Packer(prefix, capacity, packets, strict=False, clean=False, tags=None, container=None, external=None, "
+                  "cardinality=None, adds_up=False): makes lines and packs them into packets." },
     { Py_tp_init, packer_init },
     { Py_tp_dealloc, packer_dealloc },
     { Py_tp_methods, methods },
@@ -312,6 +328,10 @@ static PyMethodDef functions[] = {
     { "environment_container", environment_container, METH_VARARGS,
       "environment_container(groups, inode, *values): the text of the default container, 0 and 0." },
     { "environment_tags", environment_tags, METH_VARARGS, "environment_tags(*values): the text of the tags that the variables say, 0 and 0." },
+    { "environment_external", environment_external, METH_VARARGS,
+      "environment_external(*values): the default external data that the variables say, 0 and 0." },
+    { "environment_cardinality", environment_cardinality, METH_VARARGS,
+      "environment_cardinality(*values): the number of the default cardinality that the variables say, or 0." },
     { NULL, NULL, 0, NULL },
 };
 

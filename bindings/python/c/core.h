@@ -44,6 +44,9 @@ bool values_begin(values_of_call *values, PyObject *value, bool in_millis);
 void values_end(values_of_call *values);
 bool text_of(PyObject *value, PyObject **texts, const uint8_t **at, size_t *len);
 bool time_of(PyObject *time, bool *timed, uint64_t *to);
+/* Reads the name of a number, of which the first one is 1, or None, which is 0. */
+bool number_of(PyObject *value, const char *what, const char *const *names, uint32_t count, uint32_t *to);
+bool cardinality_of(PyObject *value, uint32_t *to);
 bool tags_begin(tags_of_call *tags, PyObject *given);
 bool tags_copy(tags_of_call *tags, PyObject *given);
 /* Cuts each tag that is a text at its first colon, as "page:home", into a key and a text. */
@@ -61,9 +64,9 @@ typedef struct {
     long form;
 } call;
 
-/* The places of the arguments of a call that makes a metric. A rate that isn't given is null, and each of the last three is
+/* The places of the arguments of a call that makes a metric. A rate that isn't given is null, and each of the last four is
  * None then. */
-enum { AT_STAT, AT_VALUE, AT_RATE, AT_TAGS, AT_CONTAINER, AT_TIMESTAMP, ARGUMENTS };
+enum { AT_STAT, AT_VALUE, AT_RATE, AT_TAGS, AT_CONTAINER, AT_TIMESTAMP, AT_CARDINALITY, ARGUMENTS };
 
 /* Reads the arguments of a call. Returns false if it has set an exception. call_end has to be called in any case. */
 bool call_begin(call *c, uint32_t kind, long form, PyObject *const *args);
@@ -85,6 +88,8 @@ PyObject *refused_by(const char *module, const char *name, PyObject *arguments);
 PyObject *destination(PyObject *module, PyObject *values);
 PyObject *environment_prefix(PyObject *module, PyObject *values);
 PyObject *environment_tags(PyObject *module, PyObject *values);
+PyObject *environment_external(PyObject *module, PyObject *values);
+PyObject *environment_cardinality(PyObject *module, PyObject *values);
 PyObject *environment_container(PyObject *module, PyObject *arguments);
 
 /* process.c: the number of this process, which differs from that of each process of which it is a fork, and what has to be
@@ -118,7 +123,7 @@ typedef struct {
     cadence_counts_of counts; /* as they were after the last call */
     cadence_settings settings; /* of each later call */
     uint8_t *texts; /* the texts of the settings */
-    PyObject *kept; /* a list that keeps the text of the default container alive */
+    PyObject *kept; /* a list that keeps the texts of the default container and of the external data alive */
     size_t capacity, packets;
     uint64_t process; /* the number of the process whose lines it has */
     uint8_t *line; /* the text of the lines that lines.c makes and then gives on */

@@ -6,10 +6,10 @@
 
 /* Reads the values of the variables, which are bytes, in the order of cadence.h. Returns false if it has set an exception. */
 static bool read_variables(PyObject *values, cadence_variables *to) {
-    return PyArg_ParseTuple(values, "y#y#y#y#y#y#y#y#y#y#y#y#y#y#y#y#y#", TEXT(url), TEXT(socket), TEXT(agent_host), TEXT(agent_port),
-                            TEXT(statsd_host), TEXT(statsd_port), TEXT(env), TEXT(service), TEXT(version), TEXT(tags),
-                            TEXT(entity_id), TEXT(disable), TEXT(enabled), TEXT(max_size),
-                            TEXT(prefix), TEXT(origin), TEXT(ipv6));
+    return PyArg_ParseTuple(values, "y#y#y#y#y#y#y#y#y#y#y#y#y#y#y#y#y#y#y#y#", TEXT(url), TEXT(socket), TEXT(agent_host),
+                            TEXT(agent_port), TEXT(statsd_host), TEXT(statsd_port), TEXT(env), TEXT(service), TEXT(version),
+                            TEXT(tags), TEXT(entity_id), TEXT(disable), TEXT(enabled), TEXT(max_size), TEXT(prefix),
+                            TEXT(origin), TEXT(ipv6), TEXT(external), TEXT(cardinality), TEXT(datadog_cardinality));
 }
 
 /* Sets a VariableError, or a MemoryError. */
@@ -22,7 +22,8 @@ static PyObject *refused(uint32_t status, uint32_t variable) {
                       Py_BuildValue("(ss#)", cadence_variable_name(variable), (const char *)text, (Py_ssize_t)len));
 }
 
-enum what { PLACE, PREFIX, TAGS, CONTAINER };
+/* A call of the library that writes a text that the variables say. */
+typedef uint32_t text_call(const cadence_variables *variables, uint8_t *out, size_t room, size_t *len, uint32_t *variable);
 
 /* What the system says of the control groups of the process. */
 struct groups {
@@ -31,10 +32,10 @@ struct groups {
     unsigned long long inode;
 };
 
-/* Returns the text of the tags, of the prefix or of the container, 0, 0 and False, or where to send: the host and the port,
- * or a path and 0, or an empty text and 0, with the number of bytes that a packet has, and whether the host is looked up
- * for addresses of IPv6 alone. */
-static PyObject *said(PyObject *values, enum what what, const struct groups *groups) {
+/* Returns the text that a call writes, or with groups that of the container, and 0, 0 and False. With neither it returns where
+ * to send: the host and the port, or a path and 0, or an empty text and 0, with the number of bytes that a packet has, and
+ * whether the host is looked up for addresses of IPv6 alone. */
+static PyObject *said(PyObject *values, text_call *writes, const struct groups *groups) {
     cadence_variables variables;
     uint32_t variable = 0, status = CADENCE_TOO_SMALL;
     uint16_t port = 0;
@@ -46,12 +47,11 @@ static PyObject *said(PyObject *values, enum what what, const struct groups *gro
     while (status == CADENCE_TOO_SMALL && (more = PyMem_Realloc(text, len)) != NULL) {
         text = more;
         room = len;
-        status = what == TAGS     ? cadence_environment_tags(&variables, text, room, &len, &variable)
-                 : what == CONTAINER
+        status = writes != NULL ? writes(&variables, text, room, &len, &variable)
+                 : groups != NULL
                      ? cadence_environment_container(&variables, (const uint8_t *)groups->text, (size_t)groups->len,
                                                      groups->inode, text, room, &len, &variable)
-                 : what == PREFIX ? cadence_environment_prefix(&variables, text, room, &len, &variable)
-                                  : cadence_destination(&variables, text, room, &len, &port, &capacity, &only_ipv6, &variable);
+                     : cadence_destination(&variables, text, room, &len, &port, &capacity, &only_ipv6, &variable);
     }
     if (status == CADENCE_OK)
         made = Py_BuildValue("(s#inO)", (const char *)text, (Py_ssize_t)len, (int)port, (Py_ssize_t)capacity,
@@ -63,17 +63,31 @@ static PyObject *said(PyObject *values, enum what what, const struct groups *gro
 
 PyObject *destination(PyObject *module, PyObject *values) {
     (void)module;
-    return said(values, PLACE, NULL);
+    return said(values, NULL, NULL);
 }
 
 PyObject *environment_prefix(PyObject *module, PyObject *values) {
     (void)module;
-    return said(values, PREFIX, NULL);
+    return said(values, cadence_environment_prefix, NULL);
 }
 
 PyObject *environment_tags(PyObject *module, PyObject *values) {
     (void)module;
-    return said(values, TAGS, NULL);
+    return said(values, cadence_environment_tags, NULL);
+}
+
+PyObject *environment_external(PyObject *module, PyObject *values) {
+    (void)module;
+    return said(values, cadence_environment_external, NULL);
+}
+
+PyObject *environment_cardinality(PyObject *module, PyObject *values) {
+    cadence_variables variables;
+    uint32_t cardinality = CADENCE_NO_CARDINALITY, variable = 0;
+    (void)module;
+    if (!read_variables(values, &variables)) return NULL;
+    const uint32_t status = cadence_environment_cardinality(&variables, &cardinality, &variable);
+    return status == CADENCE_OK ? PyLong_FromUnsignedLong(cardinality) : refused(status, variable);
 }
 
 PyObject *environment_container(PyObject *module, PyObject *arguments) {
@@ -82,7 +96,7 @@ PyObject *environment_container(PyObject *module, PyObject *arguments) {
     (void)module;
     if (head != NULL && PyArg_ParseTuple(head, "y#K", &groups.text, &groups.len, &groups.inode)
         && (values = PyTuple_GetSlice(arguments, 2, PyTuple_Size(arguments))) != NULL)
-        made = said(values, CONTAINER, &groups);
+        made = said(values, NULL, &groups);
     Py_XDECREF(head);
     Py_XDECREF(values);
     return made;

@@ -7,15 +7,6 @@ static bool any_text(PyObject *value, PyObject **texts, const uint8_t **at, size
     return value == Py_None || text_of(value, texts, at, len);
 }
 
-/* Reads the name of a number, of which the first one is 1, or None, which is 0. */
-static bool number_of(PyObject *value, const char *what, const char *const *names, uint32_t count, uint32_t *to) {
-    if (value == Py_None) return true;
-    for (uint32_t i = 0; i < count && PyUnicode_Check(value); i++)
-        if (PyUnicode_CompareWithASCIIString(value, names[i]) == 0) return *to = i + 1, true;
-    PyErr_Format(PyExc_ValueError, "%R is no %s", value, what);
-    return false;
-}
-
 /* Reads tags. The library tests the parts of each one, so a text is cut at its first colon; the line stays the same. A strict
  * client cuts none, so it refuses such a text as it does in a metric. */
 static bool begin_tags(tags_of_call *tags, PyObject *given, bool strict) {

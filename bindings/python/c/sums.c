@@ -39,11 +39,14 @@ PyObject *sums_name(uint32_t kind, long form, PyObject *const *args, long long *
     int over = 0;
     if (!PyLong_CheckExact(args[AT_VALUE]) || !PyUnicode_CheckExact(args[AT_STAT])) return NULL;
     if (args[AT_RATE] != NULL || args[AT_TIMESTAMP] != Py_None) return NULL;
-    if (args[AT_CONTAINER] != Py_None && !PyUnicode_CheckExact(args[AT_CONTAINER])) return NULL;
+    for (int i = AT_CONTAINER; i <= AT_CARDINALITY; i += AT_CARDINALITY - AT_CONTAINER)
+        if (args[i] != Py_None && !PyUnicode_CheckExact(args[i])) return NULL;
     *number = PyLong_AsLongLongAndOverflow(args[AT_VALUE], &over);
     if (over != 0 || (kind != CADENCE_COUNTER && (kind != CADENCE_GAUGE || form == CHANGE || *number < 0))) return NULL;
     PyObject *tags = plain_tags(args[AT_TAGS]), *named = PyLong_FromUnsignedLong(kind);
-    PyObject *name = tags != NULL && named != NULL ? PyTuple_Pack(4, named, args[AT_STAT], tags, args[AT_CONTAINER]) : NULL;
+    PyObject *name = tags != NULL && named != NULL
+        ? PyTuple_Pack(5, named, args[AT_STAT], tags, args[AT_CONTAINER], args[AT_CARDINALITY])
+        : NULL;
     Py_XDECREF(named);
     Py_XDECREF(tags);
     if (name == NULL) PyErr_Clear();

@@ -71,7 +71,7 @@ class Build(unittest.TestCase):
             path, error = self.library(**environment)
             self.assertEqual(path, "")
             self.assertIn(told, error)
-            self.assertIn("set CADENCE_LIB to the folder that it is in, as in CADENCE_LIB=/opt/cadence_c-0.8.0/lib", error)
+            self.assertIn("set CADENCE_LIB to the folder that it is in, as in CADENCE_LIB=/opt/cadence_c-0.9.0/lib", error)
 
     def test_the_header_stands_beside_the_library(self):
         self.put("lib")

@@ -1,5 +1,5 @@
 # SPDX-License-Identifier: Apache-2.0 OR MIT
-"""What the variables of the environment say, by the rows of environment.rows, and clients that are made of it."""
+"""What the variables of the environment say, by the rows of environment.rows and others, and clients that are made of it."""
 import os
 import pathlib
 import re
@@ -46,6 +46,13 @@ def shown(given):
     return " | ".join([target, *tags]).encode()
 
 
+def enrichment(given):
+    """Returns the external data and the cardinality that are read from variables, as a row has them."""
+    environment.tags(given)
+    words = environment.external_data(given), environment.external_data(given, True), environment.cardinality(given)
+    return " | ".join(word or "-" for word in words).encode()
+
+
 def rows_of(name):
     """Returns the rows of a file."""
     return [row for row in (FOLDER / name).read_text().splitlines() if row and not row.startswith("#")]
@@ -72,16 +79,21 @@ class Rows(unittest.TestCase):
         self.assertEqual(raised.exception.variable, ORIGIN.decode())
 
     def test_each_row_is_read(self):
-        rows = rows_of("environment.rows")
-        self.assertGreater(len(rows), 250)
+        self.check("environment.rows", 400, shown)
+        self.check("enrichments.rows", 70, enrichment)
+
+    def check(self, name, least, said):
+        """Tests what variables say by the rows of a file, which are at least so many."""
+        rows = rows_of(name)
+        self.assertGreaterEqual(len(rows), least)
         for row in rows:
             wanted, _, given = row.partition(" <- ")
             with self.subTest(row=row):
                 if not wanted.startswith("refuses "):
-                    self.assertEqual(shown(variables(given)), value(wanted))
+                    self.assertEqual(said(variables(given)), value(wanted))
                     continue
                 with self.assertRaises(VariableError) as raised:
-                    shown(variables(given))
+                    said(variables(given))
                 variable = wanted.removeprefix("refuses ")
                 self.assertEqual(raised.exception.variable, variable)
                 self.assertTrue(str(raised.exception).startswith(f"{variable} wants "), raised.exception)
@@ -125,6 +137,18 @@ class Clients(ClientTest):
         port = self.receiver.address[1]
         self.check(self.made(f"STATSD_PORT={port} & DD_ENV=prod", tags={"k": "v"}), "a:1|c|#env:prod,k:v")
         self.check(self.made(f"STATSD_PORT={port} & DD_ENV=prod", tags=["beta"], container="id"), "a:1|c|#env:prod,beta|c:id")
+
+    def test_external_data_and_cardinality(self):
+        given = f"STATSD_PORT={self.receiver.address[1]} & DD_EXTERNAL_ENV=cn-|web\\n & DATADOG_CARDINALITY=low"
+        own = {"external_data": "own", "cardinality": "high"}
+        for switch, words, last in (("", {}, "|card:low"), ("yes", {}, "|e:cn-web|card:low"), ("1", own, "|e:own|card:high"),
+                                    ("", {"origin_detection": True}, "|e:cn-web|card:low"), ("", own, "|e:own|card:high"),
+                                    ("1", {"origin_detection": False}, "|card:low"), ("1", {"external_data": ""}, "|card:low")):
+            with self.subTest(switch=switch, words=words):
+                client = self.made(f"{given} & DD_ORIGIN_DETECTION_ENABLED={switch}", container="id", **words)
+                self.check(client, f"a:1|c|c:id{last}")
+        bad = f"STATSD_PORT={self.receiver.address[1]} & DD_EXTERNAL_ENV=\\xff & DD_CARDINALITY=Low"
+        self.check(self.made(f"{bad} & DD_ORIGIN_DETECTION_ENABLED=1", container="id", **own), "a:1|c|c:id|e:own|card:high")
 
     def test_an_address_of_the_caller_is_used_and_no_variable_of_an_address_is_read(self):
         host, port = self.receiver.address
@@ -214,7 +238,8 @@ class Clients(ClientTest):
 
     def test_a_variable_that_cant_be_used_makes_nothing(self):
         for given in ("DD_DOGSTATSD_URL=tcp://agent", "DD_AGENT_HOST=a b", "STATSD_PORT=0", "STATSD_IPV6=6", "DD_TAGS=a|b",
-                      "DD_ENTITY_ID=\\xff"):
+                      "DD_ENTITY_ID=\\xff", "DD_CARDINALITY=Low", "DATADOG_CARDINALITY=1",
+                      "DD_EXTERNAL_ENV=\\xff & DD_ORIGIN_DETECTION_ENABLED=1"):
             with self.subTest(given=given), mock.patch.object(StatsClient, "__init__") as made:
                 with self.assertRaises(VariableError):
                     self.made(given)

@@ -1,5 +1,5 @@
 // SPDX-License-Identifier: MIT OR Apache-2.0
-// Cargo.toml: cadence = { path = "cadence_c-0.8.0/bindings/rust" } (the build finds the library in the same archive)
+// Cargo.toml: cadence = { path = "cadence_c-0.9.0/bindings/rust" } (the build finds the library in the same archive)
 use cadence::prelude::*;
 use cadence::{BufferedUdpMetricSink, StatsdClient};
 

@@ -4,10 +4,10 @@ use crate::client::{MetricBackend, StatsdClient};
 use crate::layout::Tag;
 use crate::line::Record;
 use crate::sample;
-use crate::types::{ErrorKind, Metric, MetricResult};
+use crate::types::{Cardinality, ErrorKind, Metric, MetricResult};
 use std::fmt;
 
-/// A metric before it is sent. Options can be added to it: tags, a container, a time and a sampling rate.
+/// A metric before it is sent. Options can be added to it: tags, a container, a cardinality, a time and a sampling rate.
 ///
 /// The calls of a client that end in `_with_tags` make a builder, and [`try_send`](Self::try_send) or
 /// [`send`](Self::send) sends its metric. Texts are printed as they are, with any separators in them, unless the client is
@@ -74,6 +74,21 @@ impl<'m, 'c, T: Metric + From<String>> MetricBuilder<'m, 'c, T> {
     /// Sets the container, in place of the client's.
     pub fn with_container_id(self, container_id: &'m str) -> Self {
         self.with(|record| record.options.set_container(container_id))
+    }
+
+    /// Sets which tags a Datadog agent adds to the metric, in place of the client's cardinality. The crate `cadence` doesn't
+    /// have this call.
+    ///
+    /// ```
+    /// use cadence::prelude::*;
+    /// use cadence::{Cardinality, Metric, NopMetricSink, StatsdClient};
+    ///
+    /// let client = StatsdClient::from_sink("my.service", NopMetricSink);
+    /// let counter = client.incr_with_tags("visits").with_cardinality(Cardinality::Low).try_send().unwrap();
+    /// assert_eq!("my.service.visits:1|c|card:low", counter.as_metric_str());
+    /// ```
+    pub fn with_cardinality(self, cardinality: Cardinality) -> Self {
+        self.with(|record| record.options.set_cardinality(cardinality))
     }
 
     /// Sets the time of the metric, in seconds since 1970.

@@ -3,11 +3,13 @@
 use crate::builder::MetricBuilder;
 use crate::layout::{Kind, Separators, Settings, Tag};
 use crate::line::{Record, Value};
-use crate::raw::{call_refusal, OwnedSettings, OK};
+use crate::raw::{call_refusal, Enrichment, OwnedSettings, OK};
 use crate::sealed::Sealed;
 use crate::sinks::MetricSink;
 use crate::telemetry::Telemetry;
-use crate::types::{Counter, Distribution, Gauge, Histogram, Meter, Metric, MetricError, MetricResult, OwnMetric, Set, Timer};
+use crate::types::{
+    Cardinality, Counter, Distribution, Gauge, Histogram, Meter, Metric, MetricError, MetricResult, OwnMetric, Set, Timer,
+};
 use crate::value::{
     MetricValue, ToCounterValue, ToDistributionValue, ToGaugeValue, ToHistogramValue, ToMeterValue, ToSetValue, ToTimerValue,
 };
@@ -35,6 +37,7 @@ pub struct StatsdClientBuilder {
     client: StatsdClient,
     prefix: String,
     container: Option<String>,
+    enrichment: Enrichment,
     separators: Separators,
     pub(crate) telemetry: Option<(String, Duration)>,
 }
@@ -62,6 +65,33 @@ impl StatsdClientBuilder {
     /// Sets the container of every metric of the client that doesn't set its own.
     pub fn with_container_id<K: ToString>(mut self, container_id: K) -> Self {
         self.container = Some(container_id.to_string());
+        self
+    }
+
+    /// Sets the external data of every metric of the client: the value of the variable `DD_EXTERNAL_ENV`, by which a Datadog
+    /// agent finds the container and the pod of the process. An empty text sets none. If the text has a `|` or a newline, the
+    /// client refuses each call, also if it isn't strict, and [`try_build`](Self::try_build) returns the error at once. The
+    /// crate `cadence` doesn't have this call.
+    ///
+    /// ```
+    /// use cadence::prelude::*;
+    /// use cadence::{Cardinality, Metric, NopMetricSink, StatsdClient};
+    ///
+    /// let client = StatsdClient::builder("my.service", NopMetricSink)
+    ///     .with_external_data("it-false,cn-web,pu-4a")
+    ///     .with_cardinality(Cardinality::Low)
+    ///     .build();
+    /// assert_eq!("my.service.visits:1|c|e:it-false,cn-web,pu-4a|card:low", client.incr("visits").unwrap().as_metric_str());
+    /// ```
+    pub fn with_external_data<K: ToString>(mut self, external: K) -> Self {
+        self.enrichment.external = external.to_string();
+        self
+    }
+
+    /// Sets which tags a Datadog agent adds to every metric of the client that doesn't set its own cardinality. The crate
+    /// `cadence` doesn't have this call.
+    pub fn with_cardinality(mut self, cardinality: Cardinality) -> Self {
+        self.enrichment.cardinality = cardinality as u32;
         self
     }
 
@@ -129,11 +159,12 @@ impl StatsdClientBuilder {
     /// Returns the settings of the client with a prefix, or the status of the library if they can't be made.
     fn settings_of(&self, prefix: &str) -> Result<OwnedSettings, u32> {
         let tags: Vec<Tag<'_>> = self.client.tags.iter().map(|(key, text)| Tag::new(key.as_deref(), text)).collect();
-        OwnedSettings::new(prefix, &tags, self.container.as_deref(), self.separators)
+        OwnedSettings::new(prefix, &tags, self.container.as_deref(), &self.enrichment, self.separators)
     }
 
     /// Makes the client as [`build`](Self::build) does. It fails with `InvalidInput` if the client is strict and its
-    /// prefix, a default tag or the default container has a separator. The crate `cadence` doesn't have this call.
+    /// prefix, a default tag or the default container has a separator, or if the external data have a `|` or a newline. The
+    /// crate `cadence` doesn't have this call.
     pub fn try_build(self) -> MetricResult<StatsdClient> {
         let client = self.build();
         client.check()?;
@@ -144,7 +175,8 @@ impl StatsdClientBuilder {
 /// Makes metrics whose names begin with a prefix, and passes the line of each to a sink.
 ///
 /// Threads may share a client by reference or in an `Arc`. A client takes no lock of its own, but its sink may take
-/// one. The traits of [`prelude`](crate::prelude) have the calls of a client, and [`MetricClient`] has all of them.
+/// one. The traits of [`prelude`](crate::prelude) have the calls of a client, and
+/// [`MetricClient`](crate::MetricClient) has all of them.
 ///
 /// ```
 /// use std::sync::Arc;
@@ -179,7 +211,8 @@ impl StatsdClient {
         let (settings, sink, errors) = (OwnedSettings::default(), Box::new(sink), Box::new(|_| ()));
         let client = StatsdClient { settings, sink, errors, tags: Vec::new(), refusal: OK, telemetry: None };
         let separators = Separators::Kept;
-        StatsdClientBuilder { client, prefix: prefix.to_string(), container: None, separators, telemetry: None }
+        let (prefix, enrichment) = (prefix.to_string(), Enrichment::default());
+        StatsdClientBuilder { client, prefix, container: None, enrichment, separators, telemetry: None }
     }
 
     /// Flushes the sink, which then sends the lines that it has buffered.

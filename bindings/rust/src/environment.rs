@@ -2,9 +2,12 @@
 //! What the variables of the environment say about a client.
 use crate::client::{StatsdClient, StatsdClientBuilder};
 use crate::layout::{Variables, ORIGIN, VARIABLES};
-use crate::raw::{destination, environment_container, environment_prefix, environment_tags, variable_text};
+use crate::raw::{
+    destination, environment_cardinality, environment_container, environment_external, environment_prefix, environment_tags,
+    variable_text,
+};
 use crate::sinks::{Buffer, BufferedUnixMetricSink, HostSink, NopMetricSink, Periods};
-use crate::types::MetricResult;
+use crate::types::{Cardinality, MetricResult};
 use std::ffi::OsString;
 use std::net::IpAddr;
 use std::os::unix::ffi::OsStrExt;
@@ -15,6 +18,9 @@ use std::{env, error, fmt, fs};
 
 /// The number of the control groups of the host.
 const HOST: u64 = 4_026_531_835;
+
+/// All cardinalities. Each is, as an integer, the number that the library has for it.
+const CARDINALITIES: [Cardinality; 4] = [Cardinality::NoTags, Cardinality::Low, Cardinality::Orchestrator, Cardinality::High];
 
 /// Where a client sends.
 #[derive(Clone, Debug, PartialEq, Eq)]
@@ -27,8 +33,8 @@ pub enum Target {
     Nowhere,
 }
 
-/// What the variables of the environment say about a client: where it sends, how many bytes its packets have, its prefix
-/// and its default tags.
+/// What the variables of the environment say about a client: where it sends, how many bytes its packets have, its prefix,
+/// its default tags, and by what a Datadog agent adds more tags.
 ///
 /// A variable that is empty counts as not set, and a variable that another one overrides isn't read.
 ///
@@ -45,7 +51,10 @@ pub enum Target {
 /// | `DD_ENV`, `DD_SERVICE`, `DD_VERSION` | the tags `env:..`, `service:..` and `version:..`, in this order |
 /// | `DD_TAGS` | the next tags, separated by commas, or by spaces if it has no comma; each is `K:V`, cut at its first colon, or `V` |
 /// | `DD_ENTITY_ID` | the last tag, `dd.internal.entity_id:..` |
-/// | `DD_ORIGIN_DETECTION_ENABLED` | the default container, which is that of the process, if it says `1`, `true`, `True` or `yes` |
+/// | `DD_ORIGIN_DETECTION_ENABLED` | the default container and external data, which are those of the process, if it says `1`, `true`, `True` or `yes` |
+/// | `DD_EXTERNAL_ENV` | the external data of the process, which are sent without bars and control characters of ASCII |
+/// | `DD_CARDINALITY` | the default cardinality: `none`, `low`, `orchestrator` or `high` |
+/// | `DATADOG_CARDINALITY` | the default cardinality, if `DD_CARDINALITY` isn't set |
 ///
 /// Of a host and a port, one alone leaves the other as it is by default: 127.0.0.1 and 8125. A tag of `DD_TAGS` with the
 /// key `env`, `service` or `version` is left out if `DD_ENV`, `DD_SERVICE` or `DD_VERSION` is set.
@@ -67,6 +76,8 @@ pub struct Environment {
     prefix: String,
     tags: Vec<(Option<String>, String)>,
     container: Option<String>,
+    external: Option<String>,
+    cardinality: Option<Cardinality>,
 }
 
 /// The error of a variable that can't be used. Its text has the name of the variable, and says what the value has to
@@ -146,8 +157,11 @@ impl Environment {
         let tags = tags_of(&environment_tags(&variables).map_err(fault_of)?);
         let groups = if values[ORIGIN].is_empty() { Vec::new() } else { control_groups() };
         let container = environment_container(&variables, &groups, inode_of(&groups)).map_err(fault_of)?;
-        let container = if container.is_empty() { None } else { Some(container) };
-        Ok(Environment { target, capacity, only_ipv6, prefix, tags, container })
+        let external = environment_external(&variables).map_err(fault_of)?;
+        let [container, external] = [container, external].map(|text| Some(text).filter(|text| !text.is_empty()));
+        let number = environment_cardinality(&variables).map_err(fault_of)?;
+        let cardinality = CARDINALITIES.into_iter().find(|cardinality| *cardinality as u32 == number);
+        Ok(Environment { target, capacity, only_ipv6, prefix, tags, container, external, cardinality })
     }
 
     /// Returns where to send.
@@ -181,10 +195,20 @@ impl Environment {
         self.container.as_deref()
     }
 
-    /// Returns the builder of a client, to which other tags and an error handler can be added. The client sends to the
-    /// target from a socket of its own, which never blocks, and packs lines into packets of
-    /// [`capacity`](Self::capacity). If nothing is sent, its sink is a [`NopMetricSink`](crate::NopMetricSink). The
-    /// prefix is that of [`StatsdClient::from_sink`].
+    /// Returns the default external data, which are those of `DD_EXTERNAL_ENV` if `DD_ORIGIN_DETECTION_ENABLED` says so.
+    pub fn external(&self) -> Option<&str> {
+        self.external.as_deref()
+    }
+
+    /// Returns the default cardinality, which says which tags of the container a Datadog agent adds.
+    pub fn cardinality(&self) -> Option<Cardinality> {
+        self.cardinality
+    }
+
+    /// Returns the builder of a client, to which other tags and an error handler can be added. A container, external data or
+    /// a cardinality of your own takes the place of that of the environment. The client sends to the target from a socket of
+    /// its own, which never blocks, and packs lines into packets of [`capacity`](Self::capacity). If nothing is sent, its
+    /// sink is a [`NopMetricSink`](crate::NopMetricSink). The prefix is that of [`StatsdClient::from_sink`].
     ///
     /// Of a name the first address of IPv4 is sent to, or if it has none the first one; with
     /// [`only_ipv6`](Self::only_ipv6) the first address of IPv6. A thread looks the name up again after a minute, and after
@@ -199,6 +223,8 @@ impl Environment {
             Target::Nowhere => StatsdClient::builder(prefix, NopMetricSink),
         };
         let builder = self.container.iter().fold(builder, |builder, id| builder.with_container_id(id));
+        let builder = self.external.iter().fold(builder, |builder, text| builder.with_external_data(text));
+        let builder = self.cardinality.into_iter().fold(builder, StatsdClientBuilder::with_cardinality);
         Ok(self.tags.iter().fold(builder, |builder, (key, text)| match key {
             Some(key) => builder.with_tag(key, text),
             None => builder.with_tag_value(text),

@@ -1,6 +1,7 @@
 // SPDX-License-Identifier: MIT OR Apache-2.0
 //! The structs that are passed to the library, in the layout of `cadence.h`.
 use crate::raw::Slice;
+use crate::types::Cardinality;
 use std::{fmt, ptr};
 
 /// A kind of metric: the number and the text that the library has for it.
@@ -73,6 +74,8 @@ pub(crate) struct Settings<'a> {
     contained: bool,
     strict: bool,
     cleaned: bool,
+    external: Slice<'a, u8>,
+    cardinality: u32,
 }
 
 /// What becomes of a separator in a text of a call.
@@ -99,12 +102,18 @@ impl<'a> Settings<'a> {
     pub(crate) fn new(prefix: &'a str, tags: &'a str, container: Option<&'a str>, separators: Separators) -> Settings<'a> {
         let [prefix, tags, text] = [prefix, tags, container.unwrap_or("")].map(|text| Slice::new(text.as_bytes()));
         let (strict, cleaned) = separators.words();
-        Settings { prefix, tags, container: text, contained: container.is_some(), strict, cleaned }
+        let (external, cardinality) = (Slice::new(&[]), 0);
+        Settings { prefix, tags, container: text, contained: container.is_some(), strict, cleaned, external, cardinality }
+    }
+
+    /// Sets the external data, or none if the text is empty, and the number of the cardinality.
+    pub(crate) fn set_enrichment(&mut self, external: &'a str, cardinality: u32) {
+        (self.external, self.cardinality) = (Slice::new(external.as_bytes()), cardinality);
     }
 }
 
 /// The names of the variables of the environment.
-pub(crate) const VARIABLES: [&str; 17] = [
+pub(crate) const VARIABLES: [&str; 20] = [
     "DD_DOGSTATSD_URL",
     "DD_DOGSTATSD_SOCKET",
     "DD_AGENT_HOST",
@@ -122,9 +131,12 @@ pub(crate) const VARIABLES: [&str; 17] = [
     "STATSD_PREFIX",
     "DD_ORIGIN_DETECTION_ENABLED",
     "STATSD_IPV6",
+    "DD_EXTERNAL_ENV",
+    "DD_CARDINALITY",
+    "DATADOG_CARDINALITY",
 ];
 
-/// The number of the variable that makes the container of the process the default one.
+/// The number of the variable that makes the container and the external data of the process the default ones.
 pub(crate) const ORIGIN: usize = 15;
 
 /// The values of the variables of the environment, in the order of their names. One that isn't set is empty.
@@ -161,6 +173,7 @@ pub(crate) struct Options<'a> {
     rated: bool,
     timed: bool,
     known: bool,
+    cardinality: u32,
 }
 
 impl<'a> Options<'a> {
@@ -177,6 +190,7 @@ impl<'a> Options<'a> {
             timed: false,
             // each text is a `&str`, so it is UTF-8
             known: true,
+            cardinality: 0,
         }
     }
 
@@ -192,6 +206,10 @@ impl<'a> Options<'a> {
 
     pub(crate) fn set_time(&mut self, time: u64) {
         (self.time, self.timed) = (time, true);
+    }
+
+    pub(crate) fn set_cardinality(&mut self, cardinality: Cardinality) {
+        self.cardinality = cardinality as u32;
     }
 
     #[cold]

@@ -43,7 +43,9 @@
 //! [`StatsdClientBuilder::with_strict_texts`] makes a client that refuses texts with separators, and
 //! [`StatsdClientBuilder::with_cleaned_texts`] one that sends each separator as an underscore. [`StatsdClient::close`] waits until queued lines are sent, before the process ends. [`StatsdClient::timer`] times a scope.
 //! [`StatsdClient::set_text`] adds a text to a set, [`StatsdClient::change`] changes a gauge, and
-//! [`StatsdClient::level`] sets it, also below 0. [`MetricBuilder::with_sampling`] sends a share of the calls. A queue's builder
+//! [`StatsdClient::level`] sets it, also below 0. [`MetricBuilder::with_sampling`] sends a share of the calls.
+//! [`StatsdClientBuilder::with_external_data`] and [`StatsdClientBuilder::with_cardinality`] tell a Datadog agent which tags
+//! to add, and [`MetricBuilder::with_cardinality`] for one metric. A queue's builder
 //! has a [policy](QueuingMetricSinkBuilder::with_policy) and a [period](QueuingMetricSinkBuilder::with_flush_period).
 //! [`AggregatingMetricSink`] adds lines up before it sends them, and adds numbers up by a [`LineKey`] without making a
 //! line. [`StatsdClient::event`] and [`StatsdClient::service_check`] send what DogStatsD has beside metrics. [`Environment`] is
@@ -73,7 +75,7 @@ pub use self::sinks::{
     QueuingMetricSinkBuilder, SinkStats, SpyMetricSink, UdpMetricSink, UdpMetricSinkBuilder, UnixMetricSink,
 };
 pub use self::types::{
-    Counter, Distribution, ErrorKind, Gauge, Histogram, Meter, Metric, MetricError, MetricResult, Set, Timer,
+    Cardinality, Counter, Distribution, ErrorKind, Gauge, Histogram, Meter, Metric, MetricError, MetricResult, Set, Timer,
 };
 
 mod builder;

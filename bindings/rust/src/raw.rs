@@ -40,19 +40,38 @@ impl<'a, T> Slice<'a, T> {
 /// Settings with their texts, so that they are made once and lent to each call.
 pub(crate) struct OwnedSettings {
     // `lent` points to these texts, which are never changed. A `String` may move, because its bytes don't move with it.
-    texts: [String; 3],
+    texts: [String; 4],
     lent: Settings<'static>,
 }
 
+/// What a Datadog agent uses to add tags to the metrics of a client.
+#[derive(Clone, Default)]
+pub(crate) struct Enrichment {
+    /// The external data, or an empty text for none.
+    pub(crate) external: String,
+    /// The number of the cardinality, or 0 for none.
+    pub(crate) cardinality: u32,
+}
+
 impl OwnedSettings {
-    /// Makes settings of a prefix, default tags, a default container, and what becomes of a separator in a text. The error
-    /// is a status, which is `SEPARATOR` if such texts are refused and a text of these has a separator.
-    pub(crate) fn new(prefix: &str, tags: &[Tag<'_>], container: Option<&str>, separators: Separators) -> Result<Self, u32> {
+    /// Makes settings of a prefix, default tags, a default container, what a Datadog agent uses, and what becomes of a
+    /// separator in a text. The error is a status, which is `SEPARATOR` if the external data have a bar or a newline, or if
+    /// separators are refused and a text of these has one.
+    pub(crate) fn new(
+        prefix: &str,
+        tags: &[Tag<'_>],
+        container: Option<&str>,
+        enrichment: &Enrichment,
+        separators: Separators,
+    ) -> Result<Self, u32> {
+        if enrichment.external.contains(['|', '\n']) {
+            return Err(SEPARATOR);
+        }
         let text = container.unwrap_or_default();
         let (strict, cleaned) = separators.words();
         // SAFETY: each pointer comes with the length of its slice. The first text is a part of the prefix and a dot, the
-        // second one consists of texts in UTF-8 and of ASCII characters, and the third one is in UTF-8. In a cleaned text some
-        // ASCII characters are underscores.
+        // second one consists of texts in UTF-8 and of ASCII characters, and the other ones are in UTF-8. In a cleaned text
+        // some ASCII characters are underscores.
         let texts = unsafe {
             if strict && cadence_test_text(text.as_ptr(), text.len()) != OK {
                 return Err(SEPARATOR);
@@ -67,14 +86,16 @@ impl OwnedSettings {
                 } else {
                     text.to_string()
                 },
+                enrichment.external.clone(),
             ]
         };
-        Ok(Self::of(texts, container.is_some(), separators))
+        Ok(Self::of(texts, container.is_some(), enrichment.cardinality, separators))
     }
 
-    fn of(texts: [String; 3], contained: bool, separators: Separators) -> OwnedSettings {
-        let [prefix, tags, container] = texts.each_ref().map(String::as_str);
-        let lent = Settings::new(prefix, tags, contained.then_some(container), separators);
+    fn of(texts: [String; 4], contained: bool, cardinality: u32, separators: Separators) -> OwnedSettings {
+        let [prefix, tags, container, external] = texts.each_ref().map(String::as_str);
+        let mut lent = Settings::new(prefix, tags, contained.then_some(container), separators);
+        lent.set_enrichment(external, cardinality);
         // SAFETY: `lend` returns it only for as long as the texts are there.
         let lent = unsafe { mem::transmute::<Settings<'_>, Settings<'static>>(lent) };
         OwnedSettings { texts, lent }
@@ -94,7 +115,7 @@ impl OwnedSettings {
 
 impl Default for OwnedSettings {
     fn default() -> Self {
-        Self::of(Default::default(), false, Separators::Kept)
+        Self::of(Default::default(), false, 0, Separators::Kept)
     }
 }
 
@@ -175,6 +196,14 @@ unsafe extern "C" {
         size: *mut usize,
         variable: *mut u32,
     ) -> u32;
+    fn cadence_environment_external(
+        variables: *const Variables<'_>,
+        out: *mut u8,
+        room: usize,
+        size: *mut usize,
+        variable: *mut u32,
+    ) -> u32;
+    fn cadence_environment_cardinality(variables: *const Variables<'_>, cardinality: *mut u32, variable: *mut u32) -> u32;
     fn cadence_variable_text(variable: u32, out: *mut u8, room: usize, size: *mut usize) -> u32;
 }
 
@@ -292,6 +321,20 @@ pub(crate) fn environment_container(variables: &Variables<'_>, groups: &[u8], in
 pub(crate) fn environment_tags(variables: &Variables<'_>) -> Result<String, u32> {
     // SAFETY: as in `destination`.
     unsafe { said(|out, room, size, variable| cadence_environment_tags(variables, out, room, size, variable)) }
+}
+
+/// Returns the default external data that the variables say, or an empty text.
+pub(crate) fn environment_external(variables: &Variables<'_>) -> Result<String, u32> {
+    // SAFETY: as in `destination`.
+    unsafe { said(|out, room, size, variable| cadence_environment_external(variables, out, room, size, variable)) }
+}
+
+/// Returns the number of the default cardinality that the variables say, or 0.
+pub(crate) fn environment_cardinality(variables: &Variables<'_>) -> Result<u32, u32> {
+    let mut cardinality = 0;
+    // SAFETY: the call reads the values with their lengths, and only writes to the numbers. So the text is empty.
+    unsafe { said(|_, _, _, variable| cadence_environment_cardinality(variables, &mut cardinality, variable))? };
+    Ok(cardinality)
 }
 
 /// Returns the message for the variable of this number: its name, and what its value has to be.

@@ -7,6 +7,20 @@ use crate::value::MetricValue;
 use std::alloc::{handle_alloc_error, Layout};
 use std::{error, fmt, io};
 
+/// Which tags of its container a Datadog agent adds to a metric. Tags of more values make more series, which a server
+/// stores. The crate `cadence` doesn't have this type.
+#[derive(Debug, Clone, Copy, PartialEq, Eq, Hash)]
+pub enum Cardinality {
+    /// `none`: no tags.
+    NoTags = 1,
+    /// `low`: tags of few values, such as the name of an image.
+    Low = 2,
+    /// `orchestrator`: also those of a pod or a task.
+    Orchestrator = 3,
+    /// `high`: also those of a single container.
+    High = 4,
+}
+
 /// A metric that has a line of the Statsd format.
 pub trait Metric {
     /// Returns the line, without a newline.

@@ -1,7 +1,8 @@
 // SPDX-License-Identifier: MIT OR Apache-2.0
-//! What the variables of the environment say, by the rows of `environment.rows`, and clients that are made of it.
+//! What the variables of the environment say, by the rows of `environment.rows` and `enrichments.rows`, and clients that are
+//! made of it.
 use cadence::prelude::*;
-use cadence::{Environment, ErrorKind, Target};
+use cadence::{Cardinality, Environment, EnvironmentError, ErrorKind, Target};
 use std::collections::HashMap;
 use std::ffi::OsString;
 use std::net::UdpSocket;
@@ -26,8 +27,8 @@ fn bytes(text: &str) -> Vec<u8> {
     bytes
 }
 
-/// Reads the variables of a row.
-fn read(variables: &str) -> Result<Environment, cadence::EnvironmentError> {
+/// Reads the variables of a row. Of two values of a variable the last one counts.
+fn read(variables: &str) -> Result<Environment, EnvironmentError> {
     let pairs = variables.split(" & ").filter(|pair| !pair.is_empty()).map(|pair| pair.split_once('=').unwrap());
     let set: HashMap<&str, OsString> = pairs.map(|(name, value)| (name, OsString::from_vec(bytes(value)))).collect();
     Environment::read_from(|name| set.get(name).cloned())
@@ -57,23 +58,32 @@ fn shown(environment: &Environment) -> Vec<u8> {
     text.into_bytes()
 }
 
-/// Returns the rows. An archive has their file beside this crate, the repository where its own test reads it.
-fn rows() -> String {
-    let folder = env!("CARGO_MANIFEST_DIR");
-    ["../environment.rows", "../../crates/test_calls/data/environment.rows"]
-        .iter()
-        .find_map(|place| std::fs::read_to_string(format!("{folder}/{place}")).ok())
-        .unwrap()
+/// Returns the external data and the cardinality that variables say, as a row has them.
+fn enrichment(variables: &str) -> Result<Vec<u8>, EnvironmentError> {
+    let (said, wanted) = (read(variables)?, read(&format!("{variables} & DD_ORIGIN_DETECTION_ENABLED=1"))?);
+    let cardinality = said.cardinality().map(|cardinality| match cardinality {
+        Cardinality::NoTags => "none",
+        Cardinality::Low => "low",
+        Cardinality::Orchestrator => "orchestrator",
+        Cardinality::High => "high",
+    });
+    let words = [said.external(), wanted.external(), cardinality];
+    Ok(words.map(|word| word.unwrap_or("-")).join(" | ").into_bytes())
 }
 
-#[test]
-fn each_row_is_read() {
-    let rows = rows();
+/// Tests what variables say by the rows of a file, which are at least so many. An archive has the file beside this crate, the
+/// repository where its own test reads it.
+fn test_rows(name: &str, least: usize, said: fn(&str) -> Result<Vec<u8>, EnvironmentError>) {
+    let folder = env!("CARGO_MANIFEST_DIR");
+    let rows = ["..", "../../crates/test_calls/data"]
+        .iter()
+        .find_map(|place| std::fs::read_to_string(format!("{folder}/{place}/{name}")).ok())
+        .unwrap();
     let mut seen = 0;
     for row in rows.lines().filter(|row| !row.is_empty() && !row.starts_with('#')) {
         let (wanted, variables) = row.split_once(" <- ").unwrap_or((row, ""));
-        match (read(variables), wanted.strip_prefix("refuses ")) {
-            (Ok(environment), None) => assert_eq!(bytes(wanted), shown(&environment), "{row}"),
+        match (said(variables), wanted.strip_prefix("refuses ")) {
+            (Ok(said), None) => assert_eq!(bytes(wanted), said, "{row}"),
             (Err(error), Some(variable)) => {
                 assert_eq!(variable, error.variable(), "{row}");
                 assert!(error.to_string().starts_with(&format!("{variable} wants ")), "{row}: {error}");
@@ -82,7 +92,13 @@ fn each_row_is_read() {
         }
         seen += 1;
     }
-    assert!(seen > 250, "{seen}");
+    assert!(seen >= least, "{seen}");
+}
+
+#[test]
+fn each_row_is_read() {
+    test_rows("environment.rows", 400, |variables| read(variables).map(|environment| shown(&environment)));
+    test_rows("enrichments.rows", 70, enrichment);
 }
 
 #[test]
@@ -154,6 +170,25 @@ fn a_builder_takes_more_tags_after_those_of_the_environment() {
     assert_eq!(ErrorKind::InvalidInput, client.incr("a|b").unwrap_err().kind());
     drop(client);
     assert_eq!("a:1|c|#env:prod,k:v\n", packet!(server));
+}
+
+#[test]
+fn a_client_has_the_external_data_and_the_cardinality_unless_the_caller_gives_others() {
+    let server = UdpSocket::bind("127.0.0.1:0").unwrap();
+    let port = server.local_addr().unwrap().port();
+    let variables = format!("STATSD_PORT={port} & DD_EXTERNAL_ENV=cn-|web\\n & DATADOG_CARDINALITY=low");
+    let environment = read(&format!("{variables} & DD_ORIGIN_DETECTION_ENABLED=yes")).unwrap();
+    let builder = || environment.builder("p").unwrap().with_container_id("id");
+    for (client, line) in [
+        (read(&variables).unwrap().client("p").unwrap(), "p.a:1|c|card:low\n"),
+        (builder().build(), "p.a:1|c|c:id|e:cn-web|card:low\n"),
+        (builder().with_external_data("own").build(), "p.a:1|c|c:id|e:own|card:low\n"),
+        (builder().with_cardinality(Cardinality::High).build(), "p.a:1|c|c:id|e:cn-web|card:high\n"),
+    ] {
+        client.incr("a").unwrap();
+        client.flush().unwrap();
+        assert_eq!(line, packet!(server));
+    }
 }
 
 #[test]

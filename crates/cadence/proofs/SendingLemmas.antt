@@ -14,7 +14,7 @@ use Rattle.cadence_text.specs.Metric.{Metric}
 use Rattle.cadence_text.proofs.writing.DraftText.{line_of_draft_with, tagged_draft}
 use Rattle.cadence_value.specs.Chances.{IsBelow}
 use Rattle.cadence_value.specs.Number.{Number, natural, numbers_text}
-use Rattle.cadence_settings.specs.Call.{Choice, tagged, contained, timed, rated, MetricCall, allows_call, chosen, metric_of_call, plain_call, with_choice}
+use Rattle.cadence_settings.specs.Call.{Choice, tagged, contained, timed, rated, enriched, MetricCall, allows_call, chosen, metric_of_call, plain_call, with_choice}
 use Rattle.cadence_settings.specs.Settings.{Settings}
 use Rattle.cadence_settings.proofs.calls.CallOptions.{chosen-metric_of_call}
 use Rattle.cadence.specs.Sending.{SinkResults, AppliesOption, HasSentCall, IsLineText, IsMadeFrom, SendsIfAny, SendsLine, SendsValue, StartsValue}
@@ -27,6 +27,7 @@ draft_with_choice-metric v m (tagged t) = tagged_draft v m t
 draft_with_choice-metric v m (contained c) = refl
 draft_with_choice-metric v m (timed n) = refl
 draft_with_choice-metric v m (rated r) = refl
+draft_with_choice-metric v m (enriched k) = refl
 
 -- The draft of a call's metric, with an option, is the draft of the metric of the call with this option.
 draft_with_choice-call : (s : Settings) (c : MetricCall) (v : List ℕ) (o : Choice) (d : Draft) → d ≡ draft_with v (metric_of_call s c)

@@ -15,7 +15,7 @@ use Rattle.cadence_text.specs.Line.{line_with}
 use Rattle.cadence_text.specs.Metric.{Metric}
 use Rattle.cadence_value.specs.Chances.{IsBelow}
 use Rattle.cadence_value.specs.Number.{Number, natural, numbers_text}
-use Rattle.cadence_settings.specs.Call.{Choice, tagged, contained, timed, rated, MetricCall, choice_as, metric_for, metric_of_call, plain_call, with_choice}
+use Rattle.cadence_settings.specs.Call.{Choice, tagged, contained, timed, rated, enriched, MetricCall, choice_as, metric_for, metric_of_call, plain_call, with_choice}
 use Rattle.cadence_settings.specs.Call.{allows_call, allows_choice}
 use Rattle.cadence_settings.specs.Settings.{Settings, FailsFor}
 
@@ -89,6 +89,7 @@ draft_with_choice d (tagged t) = with_tag_text d t
 draft_with_choice d (contained c) = record d { container = Some c }
 draft_with_choice d (timed n) = record d { time = Some n }
 draft_with_choice d (rated r) = record d { rate = Some r }
+draft_with_choice d (enriched k) = record d { enrichment = record d.enrichment { cardinality = Some k } }
 
 -- An option changed the pending draft `old` to `new`. An error stays. A draft has the option if the settings allow it,
 -- with a cleaned text if they clean texts; otherwise there is an invalid input. Only an option that takes memory (`true`) may instead fail because memory ran out.

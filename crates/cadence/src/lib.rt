@@ -33,6 +33,7 @@ pub use client::{
     ServiceCheckBuilder, ServiceStatus, StatsdClient, StatsdClientBuilder,
 };
 pub use decimal::Decimal;
+pub use line::Cardinality;
 pub use prelude::{
     Counted, CountedExt, Distributed, Gauged, GaugedExt, Histogrammed, Metered, MetricClient,
     Setted, SettedExt, Timed,

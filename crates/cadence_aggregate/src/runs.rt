@@ -1,9 +1,10 @@
 //! A run of lines and flushes.
-ghost use Rattle.std.specs.Prelude.{◌≡◌, ◌+◌, ◌++◌, ◌<◌, List, Result, length, IfOk};
+ghost use Rattle.std.specs.Prelude.{◌≡◌, ◌+◌, ◌-◌, ◌++◌, ◌<◌, [], List, Result, length, slice_get, IfOk, Ok, OnOk, Some};
 ghost use Rattle.cadence_aggregate.specs.Aggregate.{held, accepted_samples, said_by};
 ghost use Rattle.cadence_aggregate.specs.Led.{AllLead};
 ghost use Rattle.cadence_aggregate.specs.Server.{IsSummary};
 ghost use Rattle.cadence_aggregate.specs.Within.{StayWithin};
+ghost use Rattle.cadence_aggregate.specs.declared.runs.Step.TheVariants.{Flush};
 ghost use Rattle.cadence_errors.specs.declared.SinkError.{SinkError};
 
 use crate::aggregator::Aggregator;
@@ -37,6 +38,7 @@ fn take_step<S: LineSink>(
 ) -> Result<(), SinkError>
     ensures said { IsSummary ((S.sent sink.old ++ held aggregator.old) ++ said_by step.entry result)
         (S.sent sink.new ++ held aggregator.new) }
+    ensures flushed { step.entry ≡ Flush → OnOk result (held aggregator.new ≡ []) }
     ensures leads { S.leads sink.old result sink.new }
     ensures within { StayWithin aggregator.old.most_bytes
         ((S.sent sink.old ++ held aggregator.old) ++ said_by step.entry result)
@@ -53,7 +55,8 @@ fn take_step<S: LineSink>(
 /// Runs a list of lines and flushes with any limits, over any sink, which may refuse any line. Each step has a reply.
 ///
 /// A server learns the same from the lines that were sent, and then the lines of what is still held, as from the
-/// accepted lines themselves, and it gets no more lines. A reply is the error with which the sink refused a line, if it
+/// accepted lines themselves, and it gets no more lines. After a last step that is a flush which succeeded nothing is held.
+/// A reply is the error with which the sink refused a line, if it
 /// refused one in this step. The only error of the run is that memory ran out.
 pub fn run<S: LineSink>(
     alloc: Global,
@@ -66,6 +69,10 @@ pub fn run<S: LineSink>(
     ensures headline { IfOk result (λ o. IsSummary
         (S.sent sink.old ++ accepted_samples steps.now o.replies.items)
         (S.sent sink.new ++ held o.aggregator)) }
+    ensures flushed { IfOk result (λ o.
+        slice_get steps.now (length steps.now - 1) ≡ Some Flush →
+        slice_get o.replies.items (length steps.now - 1) ≡ Some (Ok tt) →
+        held o.aggregator ≡ []) }
     ensures leads { (replies : List (Result (Unit {0}) SinkError)) ×
         AllLead S.leads sink.old replies sink.new × IfOk result (λ o. o.replies.items ≡ replies) }
     ensures within { IfOk result (λ o. StayWithin most_bytes

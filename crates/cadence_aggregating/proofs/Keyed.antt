@@ -15,7 +15,7 @@ use Rattle.cadence_read.specs.Cuts.{IsCut, Parts, line_of_parts, own_parts}
 use Rattle.cadence_read.specs.Values.{IsNumberText}
 use Rattle.cadence_settings.proofs.calls.CallOptions.{fold-chosen}
 use Rattle.cadence_settings.specs.Call.{Choice, MetricCall, choice_as, chosen, chosen_time, contained, is_clear_call, is_clear_choice, last_or, metric_for}
-use Rattle.cadence_settings.specs.Call.{metric_of_call, plain_call, rated, tagged, timed}
+use Rattle.cadence_settings.specs.Call.{enriched, metric_of_call, plain_call, rated, tagged, timed}
 use Rattle.cadence_settings.specs.DraftErrors.{DraftFails, IsDraftFault}
 use Rattle.cadence_settings.specs.Laws.{StrictCallsAreClear}
 use Rattle.cadence_settings.specs.Settings.{HasSeparator, Settings, allows_text, is_clear_settings}
@@ -150,6 +150,7 @@ own_untimed cleaned default (tagged t ∷ os) = own_untimed cleaned default os
 own_untimed cleaned default (contained c ∷ os) = own_untimed cleaned default os
 own_untimed cleaned default (timed n ∷ os) = own_untimed cleaned (Some n) os
 own_untimed cleaned default (rated r ∷ os) = own_untimed cleaned default os
+own_untimed cleaned default (enriched k ∷ os) = own_untimed cleaned default os
 
 module _ (s : Settings) (call : MetricCall) (line : List ℕ) (zero : IsLineOfZero s call line) where
   abbrev own : Metric

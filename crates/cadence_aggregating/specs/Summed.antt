@@ -2,6 +2,7 @@
 use Rattle.std.specs.Prelude.{ℕ, List, map}
 use Rattle.cadence_stage.specs.OwnLog.{items_of}
 use Rattle.cadence_aggregate.specs.Server.{Sample}
+use Rattle.cadence_aggregate.specs.declared.aggregator.Aggregator.{Aggregator}
 use Rattle.cadence_aggregating.specs.Notes.{line_of_note}
 use Rattle.cadence_aggregating.specs.Quiet.{IsQuiet}
 use Rattle.cadence_aggregating.specs.Sums.{accepted_by, held_by}
@@ -29,6 +30,10 @@ held_in s = held_by s.sums
 abbrev pub limits_in : SummedLines → Limits
 limits_in s = s.sums.limits
 
+-- what holds what lines say
+abbrev pub aggregator_in : SummedLines → Aggregator
+aggregator_in s = s.sums.aggregator
+
 -- The line says something, and if these sums are to hold that, and can, then nothing changed below when it was added.
 abbrev pub AddsQuietly : {X : Type 0} → SummedLines → List ℕ → X → X → Type 0
-AddsQuietly s line before after = ∥ IsQuiet (limits_in s) s.sums.aggregator line before after ∥₁
+AddsQuietly s line before after = ∥ IsQuiet (limits_in s) (aggregator_in s) line before after ∥₁

@@ -3,8 +3,10 @@
 mod called;
 mod stage;
 
+ghost use Rattle.std.specs.NonZero.{non_zero_usize_get};
 ghost use Rattle.std.specs.Option.{ok_or};
 ghost use Rattle.std.specs.Prelude.{◌≡◌, ◌++◌, ◌∷◌, [], IfOk, OnErr, OnOk, length, map};
+ghost use Rattle.cadence_aggregate.specs.Aggregate.{HasRoomForEach};
 ghost use Rattle.cadence_aggregating.specs.Notes.{sample_of_note};
 ghost use Rattle.cadence_aggregating.specs.Sums.{HasSummary};
 ghost use Rattle.cadence_stage.specs.OwnLog.{items_of};
@@ -45,6 +47,8 @@ impl<S: MetricSink> RecordedAggregator<S> {
         ensures held { IfOk result (λ a. samples_held a ≡ []) }
         ensures refused { IfOk result (λ a. refusals_by a ≡ []) }
         ensures limits { IfOk result (λ a. limits_of a ≡ limits) }
+        ensures caps { IfOk result (λ a.
+            HasRoomForEach (non_zero_usize_get limits.most_contexts) (aggregator_of a)) }
     {
         let sums = Sums::new(alloc, limits)?;
         let text = String::with_capacity(alloc, limits.most_bytes.min(MOST_RESERVED))?;

@@ -1,9 +1,10 @@
 //! A run of lines and flushes.
-ghost use Rattle.std.specs.Prelude.{◌≡◌, ◌++◌, All, IfOk, length};
+ghost use Rattle.std.specs.Prelude.{◌≡◌, ◌-◌, ◌++◌, [], All, IfOk, Ok, OnOk, Some, length, slice_get};
 ghost use Rattle.cadence_aggregating.specs.Origins.{ComesFrom};
 ghost use Rattle.cadence_aggregating.specs.Past.{Summarizes};
 ghost use Rattle.cadence_aggregating.specs.Recorded.{lines_accepted, samples_held, limits_of, lines_taken};
 ghost use Rattle.cadence_aggregating.specs.Runs.{accepted_line, accepted_lines};
+ghost use Rattle.cadence_aggregating.specs.declared.runs.Step.TheVariants.{Flush};
 
 use crate::limits::Limits;
 use crate::recorded::RecordedAggregator;
@@ -34,6 +35,7 @@ fn take_step<S: MetricSink>(
 ) -> Result<(), SinkError>
     ensures accepted { lines_accepted aggregator.new
         ≡ lines_accepted aggregator.old ++ accepted_line step.entry result }
+    ensures flushed { step.entry ≡ Flush → OnOk result (samples_held aggregator.new ≡ []) }
     ensures limits { limits_of aggregator.new ≡ limits_of aggregator.old }
 {
     let mut fault = SinkError::NothingWritten;
@@ -46,8 +48,8 @@ fn take_step<S: MetricSink>(
 /// Runs lines and flushes, over any sink, which may refuse what it likes, and with any limits. Each step has a reply.
 ///
 /// A server knows the same from the lines that the sink took, and what is still held, as from the accepted lines, and
-/// they are no more. Each line that the sink took is one of the accepted lines, or was made of some of them. The only
-/// error is that memory ran out.
+/// they are no more. After a last step that is a flush which succeeded nothing is held. Each line that the sink took is one
+/// of the accepted lines, or was made of some of them. The only error is that memory ran out.
 pub fn run<S: MetricSink>(
     alloc: Global,
     limits: Limits,
@@ -58,6 +60,10 @@ pub fn run<S: MetricSink>(
     ensures headline { IfOk result (λ o. ∥ Summarizes
         (accepted_lines steps.now o.replies.items)
         (lines_taken o.aggregator) (samples_held o.aggregator) ∥₁) }
+    ensures flushed { IfOk result (λ o.
+        slice_get steps.now (length steps.now - 1) ≡ Some Flush →
+        slice_get o.replies.items (length steps.now - 1) ≡ Some (Ok tt) →
+        samples_held o.aggregator ≡ []) }
     ensures origins { IfOk result (λ o. ∥ All
         (ComesFrom limits.most_bytes (accepted_lines steps.now o.replies.items))
         (lines_taken o.aggregator) ∥₁) }

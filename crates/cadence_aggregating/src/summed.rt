@@ -2,7 +2,9 @@
 //! calls that make no line.
 mod keyed;
 
+ghost use Rattle.std.specs.NonZero.{non_zero_usize_get};
 ghost use Rattle.std.specs.Prelude.{◌≡◌, ◌++◌, ◌∷◌, [], IfNone, IfOk, IfSome, OnErr, OnOk, drop, map, take};
+ghost use Rattle.cadence_aggregate.specs.Aggregate.{HasRoomForEach};
 ghost use Rattle.cadence_aggregating.specs.Notes.{sample_of_note};
 ghost use Rattle.cadence_aggregating.specs.Sums.{HasSummary};
 ghost use Rattle.cadence_aggregating.specs.Waiting.{all_notes_of};
@@ -30,7 +32,7 @@ impl SummedLines {
     ghost use Rattle.cadence_aggregating.specs.Origins.{ComesFrom};
     ghost use Rattle.cadence_aggregating.specs.Past.{Summarizes};
     ghost use Rattle.cadence_aggregating.specs.Printed.{line_saying};
-    ghost use Rattle.cadence_aggregating.specs.Summed.{AddsQuietly, accepted_in, gone_in, held_in, limits_in, waiting_in};
+    ghost use Rattle.cadence_aggregating.specs.Summed.{AddsQuietly, accepted_in, aggregator_in, gone_in, held_in, limits_in, waiting_in};
 
     /// Makes sums of no line. The only error is that memory ran out.
     pub fn new(alloc: Global, limits: Limits) -> Result<SummedLines, AllocError>
@@ -39,6 +41,8 @@ impl SummedLines {
         ensures waiting { IfOk result (λ s. waiting_in s ≡ []) }
         ensures held { IfOk result (λ s. held_in s ≡ []) }
         ensures limits { IfOk result (λ s. limits_in s ≡ limits) }
+        ensures caps { IfOk result (λ s.
+            HasRoomForEach (non_zero_usize_get limits.most_contexts) (aggregator_in s)) }
     {
         let sums = Sums::new(alloc, limits)?;
         let waiting = WaitingLines::new(alloc);

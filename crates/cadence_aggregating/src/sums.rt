@@ -1,9 +1,10 @@
 //! Lines that are added up, over any sink of what they say. `called` has the calls that make no line.
 mod called;
 
+ghost use Rattle.std.specs.NonZero.{non_zero_usize_get};
 ghost use Rattle.std.specs.Option.{ok_or};
 ghost use Rattle.std.specs.Prelude.{◌≡◌, ◌++◌, ◌∷◌, [], IfOk, OnErr, OnOk, length, true};
-ghost use Rattle.cadence_aggregate.specs.Aggregate.{CanHold, held};
+ghost use Rattle.cadence_aggregate.specs.Aggregate.{CanHold, HasRoomForEach, held};
 ghost use Rattle.cadence_aggregate.specs.Lines.{samples_of};
 ghost use Rattle.cadence_aggregate.specs.Server.{IsSummary};
 ghost use Rattle.cadence_aggregate.specs.Within.{StayWithin, if_ok};
@@ -68,6 +69,8 @@ impl Sums {
         ensures accepted { IfOk result (λ s. accepted_by s ≡ []) }
         ensures held { IfOk result (λ s. held_by s ≡ []) }
         ensures limits { IfOk result (λ s. limits_of s ≡ limits) }
+        ensures caps { IfOk result (λ s.
+            HasRoomForEach (non_zero_usize_get limits.most_contexts) (aggregator_of s)) }
         ensures summary { IfOk result (λ s. HasSummary s []) }
     {
         let aggregator = Aggregator::new(alloc, limits.most_contexts, limits.most_bytes)?;

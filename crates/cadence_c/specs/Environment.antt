@@ -14,9 +14,9 @@ use Rattle.cadence_errors.specs.declared.input_error.InputError.{InputError}
 use Rattle.cadence_errors.specs.declared.input_error.InputError.TheVariants.{Unusable, OutOfMemory}
 use Rattle.cadence_environment.specs.declared.variables.Variable.{Variable}
 use Rattle.cadence_environment.specs.declared.variables.Variable.TheVariants.{Url, Socket, AgentHost, AgentPort, StatsdHost, StatsdPort}
-use Rattle.cadence_environment.specs.declared.variables.Variable.TheVariants.{Env, Service, Version, Tags, EntityId, Disable, Enabled, MaxSize, Prefix, Origin, Ipv6}
+use Rattle.cadence_environment.specs.declared.variables.Variable.TheVariants.{Env, Service, Version, Tags, EntityId, Disable, Enabled, MaxSize, Prefix, Origin, Ipv6, External, Cardinality, DatadogCardinality}
 use Rattle.cadence_environment.specs.declared.variables.Variables.{Variables}
-use Rattle.cadence_c.specs.declared.environment.CVariables.{CVariables}
+use Rattle.cadence_c.specs.declared.variable.CVariables.{CVariables}
 
 -- The variables have these texts.
 pub record HasTexts (c : CVariables) (v : Variables) : Type 0 where
@@ -37,8 +37,11 @@ pub record HasTexts (c : CVariables) (v : Variables) : Type 0 where
   pub prefix : v.prefix.now ≡ c.prefix.now
   pub origin : v.origin.now ≡ c.origin.now
   pub ipv6 : v.ipv6.now ≡ c.ipv6.now
+  pub external : v.external.now ≡ c.external.now
+  pub cardinality : v.cardinality.now ≡ c.cardinality.now
+  pub datadog_cardinality : v.datadog_cardinality.now ≡ c.datadog_cardinality.now
 
--- the text of a variable if it is read, and otherwise the empty text
+-- the text if it is read, and otherwise the empty text
 abbrev pub when : Bool → List ℕ → List ℕ
 when is_read text = if is_read then text else []
 
@@ -78,6 +81,9 @@ pub record ArePlacesRead (c : CVariables) (v : Variables) : Type 0 where
   pub prefix : v.prefix.now ≡ []
   pub origin : v.origin.now ≡ []
   pub ipv6 : v.ipv6.now ≡ when (is_on c) c.ipv6.now
+  pub external : v.external.now ≡ []
+  pub cardinality : v.cardinality.now ≡ []
+  pub datadog_cardinality : v.datadog_cardinality.now ≡ []
 
 -- The variables that say tags have these texts. The others are empty.
 pub record AreTagsRead (c : CVariables) (v : Variables) : Type 0 where
@@ -98,6 +104,9 @@ pub record AreTagsRead (c : CVariables) (v : Variables) : Type 0 where
   pub prefix : v.prefix.now ≡ []
   pub origin : v.origin.now ≡ []
   pub ipv6 : v.ipv6.now ≡ []
+  pub external : v.external.now ≡ []
+  pub cardinality : v.cardinality.now ≡ []
+  pub datadog_cardinality : v.datadog_cardinality.now ≡ []
 
 -- The destination is this host and port, or this path and the port 0, or nowhere, with no text and the port 0.
 abbrev pub IsPlaceFound : {A : Type 0} → Destination A → List ℕ → ℕ → Type 0
@@ -119,7 +128,8 @@ variable_named n =
     else if n == 8 then Some Version else if n == 9 then Some Tags else if n == 10 then Some EntityId
     else if n == 11 then Some Disable else if n == 12 then Some Enabled else if n == 13 then Some MaxSize
     else if n == 14 then Some Prefix else if n == 15 then Some Origin
-    else if n == 16 then Some Ipv6 else None
+    else if n == 16 then Some Ipv6 else if n == 17 then Some External else if n == 18 then Some Cardinality
+    else if n == 19 then Some DatadogCardinality else None
 
 -- The error names the variable of this number, or says that memory ran out.
 abbrev pub Names : InputError Variable → ℕ → Type 0

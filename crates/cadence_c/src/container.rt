@@ -7,13 +7,13 @@ ghost use Rattle.cadence_c.specs.Environment.{HasTexts, IsNamed, container_text}
 ghost use Rattle.cadence_c.specs.Results.{WritesOut};
 ghost use Rattle.cadence_host.specs.Status.{CADENCE_NO_MEMORY, CADENCE_TOO_SMALL, CADENCE_VARIABLE, IsOkOr};
 
-use crate::environment::{CVariables, read_variable, refusal};
+use crate::variable::{CVariables, read_variable, refusal};
 use cadence_environment::{EnvironmentError, Variable, container_id, read_origin};
 use cadence_host::status::{StatusError, copy_out};
 use std::alloc::{AllocError, Global};
 
-// Returns whether the default container is that of the process.
-fn is_container_wanted(texts: &CVariables<'_>) -> Result<bool, EnvironmentError>
+/// Returns whether the default container and the default external data are those of the process.
+pub fn is_origin_wanted(texts: &CVariables<'_>) -> Result<bool, EnvironmentError>
     ensures said { IfOk result (λ is_wanted. is_wanted ≡ is_yes texts.now.origin.now) }
     ensures refused { IfErr result (λ e. (v : TheVariables) → HasTexts texts.now v →
         IsRefusedVariable v e) }
@@ -56,7 +56,7 @@ pub extern "C" fn cadence_environment_container(
         result }
 {
     *size = 0;
-    match is_container_wanted(variables) {
+    match is_origin_wanted(variables) {
         Ok(true) => match container_text(alloc, cgroup, inode) {
             Ok(text) => copy_out(text.as_bytes(), out, size),
             Err(_) => StatusError::NoMemory.code(),

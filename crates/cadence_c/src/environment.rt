@@ -1,6 +1,6 @@
 //! What the variables of the environment say of a client, for a host that read them. The calls need no client, and threads
 //! may make them at the same time.
-ghost use Rattle.std.specs.Prelude.{◌≡◌, ◌≢◌, ◌⊎◌, ◌&&◌, [], ◌∷◌, IfErr, IfOk, IsFalse, if◌then◌else◌, map, not, true};
+ghost use Rattle.std.specs.Prelude.{◌≡◌, ◌&&◌, [], ◌∷◌, IfErr, IfOk, IsFalse, map, not, true};
 ghost use Rattle.cadence_text.specs.Line.{tags_field};
 ghost use Rattle.cadence_text.specs.Owned.{tag_of_owned};
 ghost use Rattle.cadence_environment.specs.Destinations.{SaysPlace};
@@ -8,63 +8,18 @@ ghost use Rattle.cadence_environment.specs.EnvironmentFaults.{IsRefusedVariable}
 ghost use Rattle.cadence_environment.specs.Shown.{destination_of, tags_of};
 ghost use Rattle.cadence_environment.specs.TagTexts.{has_bytes, tags_said};
 ghost use Rattle.cadence_environment.specs.Switches.{turns_off};
-ghost use Rattle.cadence_errors.specs.declared.input_error.InputError.TheVariants.{Unusable};
 ghost use Rattle.cadence_environment.specs.declared.variables.Variables.{Variables as TheVariables};
-ghost use Rattle.cadence_c.specs.Environment.{ArePlacesRead, AreTagsRead, HasTexts, IsNamed, Names, SaysTarget};
+ghost use Rattle.cadence_c.specs.Environment.{ArePlacesRead, AreTagsRead, HasTexts, IsNamed, SaysTarget};
 ghost use Rattle.cadence_c.specs.Results.{WritesOut};
 ghost use Rattle.cadence_host.specs.Status.{CADENCE_NO_MEMORY, CADENCE_TOO_SMALL, CADENCE_VARIABLE, IsOkOr};
 
-use crate::variable::number_of;
+use crate::variable::{CVariables, read_variable, refusal};
 use cadence_environment::{
     Destination, Environment, EnvironmentError, Variable, Variables, is_off, read_prefix,
 };
-use cadence_host::call::text_of;
 use cadence_host::status::{StatusError, copy_out};
 use cadence_text::line::{OwnedTag, TagsText, lend_tag};
 use std::alloc::{AllocError, Global};
-
-/// The texts of the variables. A variable that is not set has the empty text.
-#[repr(C)]
-#[derive(Clone, Copy)]
-pub struct CVariables<'a> {
-    pub url: &'a [u8],
-    pub socket: &'a [u8],
-    pub agent_host: &'a [u8],
-    pub agent_port: &'a [u8],
-    pub statsd_host: &'a [u8],
-    pub statsd_port: &'a [u8],
-    pub env: &'a [u8],
-    pub service: &'a [u8],
-    pub version: &'a [u8],
-    pub tags: &'a [u8],
-    pub entity_id: &'a [u8],
-    pub disable: &'a [u8],
-    pub enabled: &'a [u8],
-    pub max_size: &'a [u8],
-    pub prefix: &'a [u8],
-    pub origin: &'a [u8],
-    pub ipv6: &'a [u8],
-}
-
-/// Returns the text of a variable, or the empty text if it is not wanted, because another variable overrides it.
-pub fn read_variable(
-    text: &[u8],
-    variable: Variable,
-    is_wanted: bool,
-) -> Result<&str, EnvironmentError>
-    ensures read { IfOk result (λ t. t.now ≡ (if is_wanted then text.now else [])) }
-    ensures refused { IfErr result (λ e. e ≡ Unusable variable) }
-    ensures wanted { IfErr result (λ _. is_wanted ≡ true) }
-    ensures set { IfErr result (λ _. text.now ≢ []) }
-{
-    if !is_wanted || text.is_empty() {
-        return Ok("");
-    }
-    match text_of(text) {
-        Some(text) => Ok(text),
-        None => Err(EnvironmentError::Unusable(variable)),
-    }
-}
 
 // Returns whether these texts of two variables don't say that nothing is sent.
 fn is_sending(disable: &str, enabled: &str) -> bool
@@ -114,6 +69,9 @@ fn read_places<'a>(texts: &CVariables<'a>) -> Result<Variables<'a>, EnvironmentE
         prefix: "",
         origin: "",
         ipv6: read_variable(texts.ipv6, Variable::Ipv6, is_on)?,
+        external: "",
+        cardinality: "",
+        datadog_cardinality: "",
     })
 }
 
@@ -141,6 +99,9 @@ fn read_tag_texts<'a>(texts: &CVariables<'a>) -> Result<Variables<'a>, Environme
         prefix: "",
         origin: "",
         ipv6: "",
+        external: "",
+        cardinality: "",
+        datadog_cardinality: "",
     })
 }
 
@@ -164,20 +125,6 @@ fn read_tags(alloc: Global, texts: &CVariables<'_>) -> Result<Environment, Envir
 {
     let variables = read_tag_texts(texts)?;
     Environment::from_variables(alloc, &variables)
-}
-
-/// Returns the status of an error, and stores the number of the variable that the error names.
-pub fn refusal(error: EnvironmentError, variable: &mut u32) -> u32
-    ensures named { result ≡ CADENCE_VARIABLE → Names error variable.new }
-    ensures statuses { (result ≡ CADENCE_VARIABLE) ⊎ (result ≡ CADENCE_NO_MEMORY) }
-{
-    match error {
-        EnvironmentError::Unusable(which) => {
-            *variable = number_of(which);
-            StatusError::Variable.code()
-        }
-        EnvironmentError::OutOfMemory => StatusError::NoMemory.code(),
-    }
 }
 
 /// Writes where the variables say to send into the first bytes of `out`, and the length of that text into `size`: a host,
@@ -236,7 +183,7 @@ fn text_of_owned(alloc: Global, tags: &[OwnedTag]) -> Result<TagsText, AllocErro
 {
     let mut text = TagsText::new(alloc);
     for tag in tags {
-        text.add(lend_tag(tag))?;
+        text.add(lend_tag(tag), false)?;
     }
     Ok(text)
 }

@@ -5,7 +5,8 @@
 //! - `events`: the calls for events and service checks
 //! - `environment`: what the variables of the environment say
 //! - `container`: the default container, which is that of the process if a variable says so
-//! - `variable`: the variables by their numbers in C
+//! - `enrichment`: the default external data and the default cardinality, as variables say them
+//! - `variable`: the texts of the variables, and their numbers in C
 //! - `metrics`: the calls that keep the line of a metric
 //! - `format`: the calls that write a line and need no client
 //! - `floats`: the decimals of floats
@@ -16,6 +17,7 @@
 
 mod box_parts;
 mod container;
+mod enrichment;
 mod environment;
 mod events;
 mod floats;

@@ -93,7 +93,7 @@ fn text_of_tags(alloc: Global, tags: &[CTag<'_>], is_cleaned: bool) -> Result<Ta
 {
     let mut text = TagsText::new(alloc);
     for tag in tags {
-        text.add_as(known_tag(tag), is_cleaned)?;
+        text.add(known_tag(tag), is_cleaned)?;
     }
     Ok(text)
 }

@@ -7,7 +7,7 @@ use Rattle.cadence_environment.specs.Destinations.{IsAbsolute, IsPathUrl}
 use Rattle.cadence_environment.specs.Switches.{turns_off}
 use Rattle.cadence_environment.specs.declared.variables.Variable.{Variable}
 use Rattle.cadence_environment.specs.declared.variables.Variable.TheVariants.{Url, Socket, AgentHost, AgentPort, StatsdHost, StatsdPort}
-use Rattle.cadence_environment.specs.declared.variables.Variable.TheVariants.{Env, Service, Version, Tags, EntityId, Disable, Enabled, MaxSize, Prefix, Origin, Ipv6}
+use Rattle.cadence_environment.specs.declared.variables.Variable.TheVariants.{Env, Service, Version, Tags, EntityId, Disable, Enabled, MaxSize, Prefix, Origin, Ipv6, External, Cardinality, DatadogCardinality}
 use Rattle.cadence_environment.specs.declared.variables.Variables.{Variables}
 
 -- The error names this variable, or says that memory ran out.
@@ -43,6 +43,9 @@ IsRead v MaxSize = IsOn v × (v.max_size.now ≢ [])
 IsRead v Prefix = v.prefix.now ≢ []
 IsRead v Origin = v.origin.now ≢ []
 IsRead v Ipv6 = IsOn v × (v.ipv6.now ≢ [])
+IsRead v External = v.external.now ≢ []
+IsRead v Cardinality = v.cardinality.now ≢ []
+IsRead v DatadogCardinality = (v.cardinality.now ≡ []) × (v.datadog_cardinality.now ≢ [])
 
 -- The error names a variable that is set and that no other one overrides, or says that memory ran out.
 abbrev pub IsRefusedVariable : Variables → InputError Variable → Type 0
@@ -63,3 +66,8 @@ IsSetFault variable text OutOfMemory = ⊤
 -- The error names one of two variables, which is set, or says that memory ran out.
 abbrev pub IsPairFault : Variable → List ℕ → Variable → List ℕ → InputError Variable → Type 0
 IsPairFault host host_text port port_text e = IsSetFault host host_text e ⊎ IsSetFault port port_text e
+
+-- The error names the one of the two variables of the cardinality that is read, which is set, or says that memory ran out.
+abbrev pub IsCardinalityFault : List ℕ → List ℕ → InputError Variable → Type 0
+IsCardinalityFault first second e =
+    IsSetFault Cardinality first e ⊎ ((first ≡ []) × IsSetFault DatadogCardinality second e)

@@ -1,6 +1,8 @@
+pub mod Cardinalities
 pub mod Containers
 pub mod Destinations
 pub mod EnvironmentFaults
+pub mod ExternalData
 pub mod Paths
 pub mod Shown
 pub mod Switches

@@ -1,37 +1,45 @@
 //! What the environment says, read from a runtime or from texts.
-ghost use Rattle.std.specs.Prelude.{◌≡◌, IfErr, IfOk, map};
+ghost use Rattle.std.specs.Prelude.{◌≡◌, IfErr, IfOk, IfSome, IsNone, IsTrue, map, string_bytes};
+ghost use Rattle.cadence_text.specs.FreeTexts.{is_field_text};
 ghost use Rattle.cadence_text.specs.Owned.{tag_of_owned};
 ghost use Rattle.cadence_environment.specs.Destinations.{SaysPlace};
 ghost use Rattle.cadence_environment.specs.EnvironmentFaults.{IsRefusedVariable, NamesNoPath};
+ghost use Rattle.cadence_environment.specs.Cardinalities.{SaysCardinality, first_set};
 ghost use Rattle.cadence_environment.specs.Containers.{default_container};
+ghost use Rattle.cadence_environment.specs.ExternalData.{default_external, external_of, text_if_any};
 ghost use Rattle.cadence_environment.specs.Switches.{IsSwitch, is_yes};
 ghost use Rattle.cadence_environment.specs.TagTexts.{tags_said};
 ghost use Rattle.std.specs.Option.{option_copied};
 
+use crate::cardinality::default_cardinality;
 use crate::container::container_id;
 use crate::destination::{Destination, read_destination};
 use crate::error::EnvironmentError;
+use crate::external::read_external;
 use crate::prefix::read_prefix;
-use crate::switch::{is_off, read_origin};
+use crate::switch::read_origin;
 use crate::tags::{Tags, read_tags};
+use crate::texts::{OriginTexts, PlaceTexts, TagTexts, read_text};
 use crate::variables::{Variable, Variables};
-use cadence_text::line::OwnedTag;
+use cadence_text::line::{Cardinality, OwnedTag};
 use std::alloc::{Alloc, Allocator, Global};
-use std::env;
-use std::env::{Env, VarError};
+use std::env::Env;
 
-/// What the environment says: where to send, the prefix of all names, the default tags of the service, and whether its
-/// default container is that of the process.
+/// What the environment says: where to send, the prefix of all names, the default tags of the service, whether its
+/// default container is that of the process, its external data, and the default cardinality.
 #[derive(Drop)]
 pub struct Environment<A: Allocator = Global> {
     destination: Destination<A>,
     prefix: String<A>,
     tags: Tags<A>,
     finds_container: bool,
+    external: String<A>,
+    cardinality: Option<Cardinality>,
+    ghost external_is_field: { IsTrue (is_field_text (string_bytes external)) },
 }
 
 impl<A: Allocator> Environment<A> {
-    ghost use Rattle.cadence_environment.specs.Shown.{destination_of, finds_container, prefix_of, tags_of};
+    ghost use Rattle.cadence_environment.specs.Shown.{cardinality_said, destination_of, external_said, finds_container, prefix_of, tags_of};
 
     /// Returns where the environment says to send.
     pub fn destination(&self) -> &Destination<A>
@@ -73,10 +81,43 @@ impl<A: Allocator> Environment<A> {
         }
         container_id(cgroup)
     }
+
+    /// Returns the external data that `DD_EXTERNAL_ENV` says, or `None` if it says none: its text without bars and control
+    /// characters. They are those of the process, also if the default container isn't, for a caller that wants them.
+    pub fn external_data(&self) -> Option<&str>
+        ensures said { option_copied result ≡ text_if_any (external_said self.now) }
+        ensures field { IfSome result (λ text. IsTrue (is_field_text text.now)) }
+    {
+        if self.external.is_empty() {
+            return None;
+        }
+        Some(&self.external)
+    }
+
+    /// Returns the external data of a client: those that the caller gives, or otherwise those of the process, if the
+    /// environment says that the default container is that of the process. `ClientSettings::set_external` takes them.
+    pub fn external<'a>(&'a self, given: Option<&'a str>) -> Option<&'a str>
+        ensures said { option_copied result ≡ default_external (finds_container self.now)
+            (option_copied given.entry) (external_said self.now) }
+        ensures field { IsNone given.entry →
+            IfSome result (λ text. IsTrue (is_field_text text.now)) }
+    {
+        match given {
+            None if self.finds_container => self.external_data(),
+            _ => given,
+        }
+    }
+
+    /// Returns the default cardinality that the environment says.
+    pub fn cardinality(&self) -> Option<Cardinality>
+        ensures { result ≡ cardinality_said self.now }
+    {
+        self.cardinality
+    }
 }
 
 impl<A: Allocator + Clone> Environment<A> {
-    ghost use Rattle.cadence_environment.specs.Shown.{destination_of, finds_container, prefix_of, tags_of};
+    ghost use Rattle.cadence_environment.specs.Shown.{cardinality_said, destination_of, external_said, finds_container, prefix_of, tags_of};
 
     /// Returns what these texts of the variables say.
     ///
@@ -93,18 +134,27 @@ impl<A: Allocator + Clone> Environment<A> {
         ensures container { IfOk result (λ e.
             finds_container e ≡ is_yes variables.now.origin.now) }
         ensures switch { IfOk result (λ _. IsSwitch variables.now.origin.now) }
+        ensures external { IfOk result (λ e.
+            external_said e ≡ external_of variables.now.external.now) }
+        ensures cardinality { IfOk result (λ e. SaysCardinality
+            (first_set variables.now.cardinality.now variables.now.datadog_cardinality.now)
+            (cardinality_said e)) }
         ensures refused { IfErr result (IsRefusedVariable variables.now) }
         ensures paths { IfErr result (NamesNoPath variables.now) }
     {
         let destination = read_destination(alloc.clone()?, variables)?;
         let prefix = String::from_str(alloc.clone()?, read_prefix(variables.prefix)?)?;
-        let tags = read_tags(alloc, variables, false)?;
+        let tags = read_tags(alloc.clone()?, variables, false)?;
         let finds_container = read_origin(variables.origin)?;
+        let external = read_external(alloc, variables.external)?;
+        let cardinality = default_cardinality(variables)?;
         Ok(Environment {
             destination,
             prefix,
             tags,
             finds_container,
+            external,
+            cardinality,
         })
     }
 
@@ -117,13 +167,13 @@ impl<A: Allocator + Clone> Environment<A> {
         let places = PlaceTexts::read(rt)?;
         let prefix = read_text(rt, Variable::Prefix, true)?;
         let tags = TagTexts::read(rt)?;
-        let origin = read_text(rt, Variable::Origin, true)?;
+        let origins = OriginTexts::read(rt)?;
         let others = Variables {
             prefix: &prefix,
-            origin: &origin,
             ..Variables::none()
         };
-        Environment::from_variables(rt.alloc(), &tags.lend(places.lend(others)))
+        let variables = origins.lend(tags.lend(places.lend(others)));
+        Environment::from_variables(rt.alloc(), &variables)
     }
 
     /// Reads the variables that say where to send, and returns what they say. The tags are not read.
@@ -159,122 +209,5 @@ impl<A: Allocator + Clone> Environment<A> {
     ) -> Result<Vec<OwnedTag<A>, A>, EnvironmentError> {
         let tags = TagTexts::read(rt)?;
         read_tags(rt.alloc(), &tags.lend(Variables::none()), true)
-    }
-}
-
-// Returns the text of a variable, or the empty text if it is not set or not wanted.
-fn read_text<R: Env + Alloc>(
-    rt: &R,
-    variable: Variable,
-    is_wanted: bool,
-) -> Result<String<R::A>, EnvironmentError> {
-    if !is_wanted {
-        return Ok(String::new(rt.alloc()));
-    }
-    match env::var(rt, variable.name()) {
-        Ok(text) => Ok(text),
-        Err(VarError::NotPresent) => Ok(String::new(rt.alloc())),
-        Err(VarError::NotUnicode) => Err(EnvironmentError::Unusable(variable)),
-        Err(VarError::OutOfMemory) => Err(EnvironmentError::OutOfMemory),
-    }
-}
-
-// The texts of the variables that say where to send. One that is not set or that another one overrides has the empty
-// text.
-#[derive(Drop)]
-struct PlaceTexts<A: Allocator> {
-    url: String<A>,
-    socket: String<A>,
-    agent_host: String<A>,
-    agent_port: String<A>,
-    statsd_host: String<A>,
-    statsd_port: String<A>,
-    disable: String<A>,
-    enabled: String<A>,
-    max_size: String<A>,
-    ipv6: String<A>,
-}
-
-impl<A: Allocator> PlaceTexts<A> {
-    // Reads the texts of the variables that no other one overrides.
-    fn read<R: Env + Alloc<A = A>>(rt: &R) -> Result<PlaceTexts<A>, EnvironmentError> {
-        let disable = read_text(rt, Variable::Disable, true)?;
-        let enabled = read_text(rt, Variable::Enabled, true)?;
-        let is_on = !is_off(&disable, &enabled);
-        let url = read_text(rt, Variable::Url, is_on)?;
-        let no_url = is_on && url.is_empty();
-        let socket = read_text(rt, Variable::Socket, no_url)?;
-        let no_path = no_url && socket.is_empty();
-        let agent_host = read_text(rt, Variable::AgentHost, no_path)?;
-        let agent_port = read_text(rt, Variable::AgentPort, no_path)?;
-        let no_agent = no_path && agent_host.is_empty() && agent_port.is_empty();
-        let statsd_host = read_text(rt, Variable::StatsdHost, no_agent)?;
-        let statsd_port = read_text(rt, Variable::StatsdPort, no_agent)?;
-        let max_size = read_text(rt, Variable::MaxSize, is_on)?;
-        let ipv6 = read_text(rt, Variable::Ipv6, is_on)?;
-        Ok(PlaceTexts {
-            url,
-            socket,
-            agent_host,
-            agent_port,
-            statsd_host,
-            statsd_port,
-            disable,
-            enabled,
-            max_size,
-            ipv6,
-        })
-    }
-
-    // Returns these variables with the texts.
-    fn lend<'a>(&'a self, others: Variables<'a>) -> Variables<'a> {
-        Variables {
-            url: &self.url,
-            socket: &self.socket,
-            agent_host: &self.agent_host,
-            agent_port: &self.agent_port,
-            statsd_host: &self.statsd_host,
-            statsd_port: &self.statsd_port,
-            disable: &self.disable,
-            enabled: &self.enabled,
-            max_size: &self.max_size,
-            ipv6: &self.ipv6,
-            ..others
-        }
-    }
-}
-
-// The texts of the variables that say the tags. One that is not set has the empty text.
-#[derive(Drop)]
-struct TagTexts<A: Allocator> {
-    env: String<A>,
-    service: String<A>,
-    version: String<A>,
-    tags: String<A>,
-    entity_id: String<A>,
-}
-
-impl<A: Allocator> TagTexts<A> {
-    // Reads the texts.
-    fn read<R: Env + Alloc<A = A>>(rt: &R) -> Result<TagTexts<A>, EnvironmentError> {
-        Ok(TagTexts {
-            env: read_text(rt, Variable::Env, true)?,
-            service: read_text(rt, Variable::Service, true)?,
-            version: read_text(rt, Variable::Version, true)?,
-            tags: read_text(rt, Variable::Tags, true)?,
-            entity_id: read_text(rt, Variable::EntityId, true)?,
-        })
-    }
-
-    // Returns these variables with the texts.
-    fn lend<'a>(&'a self, others: Variables<'a>) -> Variables<'a> {
-        Variables {
-            env: &self.env,
-            service: &self.service,
-            version: &self.version,
-            tags: &self.tags,
-            entity_id: &self.entity_id,
-            ..others
-        }
     }
 }

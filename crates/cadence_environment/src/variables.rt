@@ -40,6 +40,12 @@ pub enum Variable {
     Origin,
     /// `STATSD_IPV6`: if it says yes, a host over UDP is looked up for addresses of IPv6 alone.
     Ipv6,
+    /// `DD_EXTERNAL_ENV`: the external data of the process, such as `it-false,cn-web,pu-4a`.
+    External,
+    /// `DD_CARDINALITY`: the default cardinality.
+    Cardinality,
+    /// `DATADOG_CARDINALITY`: the same, if `DD_CARDINALITY` is not set.
+    DatadogCardinality,
 }
 
 impl Variable {
@@ -63,6 +69,9 @@ impl Variable {
             Variable::Prefix => "STATSD_PREFIX",
             Variable::Origin => "DD_ORIGIN_DETECTION_ENABLED",
             Variable::Ipv6 => "STATSD_IPV6",
+            Variable::External => "DD_EXTERNAL_ENV",
+            Variable::Cardinality => "DD_CARDINALITY",
+            Variable::DatadogCardinality => "DATADOG_CARDINALITY",
         }
     }
 }
@@ -96,6 +105,11 @@ impl Reason for Variable {
             Variable::Origin =>
                 "DD_ORIGIN_DETECTION_ENABLED wants 1, true or yes, or 0, false or no",
             Variable::Ipv6 => "STATSD_IPV6 wants 1, true or yes, or 0, false or no",
+            Variable::External =>
+                "DD_EXTERNAL_ENV wants text in UTF-8, as in it-false,cn-web,pu-4a",
+            Variable::Cardinality => "DD_CARDINALITY wants none, low, orchestrator or high",
+            Variable::DatadogCardinality =>
+                "DATADOG_CARDINALITY wants none, low, orchestrator or high",
         }
     }
 }
@@ -143,6 +157,12 @@ pub struct Variables<'a> {
     pub origin: &'a str,
     /// The text of `STATSD_IPV6`.
     pub ipv6: &'a str,
+    /// The text of `DD_EXTERNAL_ENV`.
+    pub external: &'a str,
+    /// The text of `DD_CARDINALITY`.
+    pub cardinality: &'a str,
+    /// The text of `DATADOG_CARDINALITY`.
+    pub datadog_cardinality: &'a str,
 }
 
 impl Variables<'_> {
@@ -166,6 +186,9 @@ impl Variables<'_> {
             prefix: "",
             origin: "",
             ipv6: "",
+            external: "",
+            cardinality: "",
+            datadog_cardinality: "",
         }
     }
 }

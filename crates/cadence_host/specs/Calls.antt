@@ -11,7 +11,9 @@ use Rattle.cadence_float.specs.Worth.{IsRounded, IsSmall, IsTooLarge, StandsForF
 use Rattle.cadence_text.specs.declared.line.MetricType.{MetricType}
 use Rattle.cadence_text.specs.declared.line.MetricType.TheVariants.{Counter, Timer, Gauge, Meter, Histogram, Set, Distribution}
 use Rattle.cadence_text.specs.Line.{line_with}
-use Rattle.cadence_text.specs.Metric.{Metric, Tag}
+use Rattle.cadence_text.specs.declared.line.enrichment.Cardinality.{Cardinality}
+use Rattle.cadence_text.specs.declared.line.enrichment.Cardinality.TheVariants.{NoTags, Low, Orchestrator, High}
+use Rattle.cadence_text.specs.Metric.{Enrichment, Metric, Tag}
 use Rattle.cadence_text.specs.TextValue.{IsMember, change_text}
 use Rattle.cadence_value.specs.Chances.{IsChance}
 use Rattle.cadence_value.specs.Number.{Number, IsLowestForm, natural, numbers_text}
@@ -22,6 +24,7 @@ use Rattle.cadence_settings.specs.Settings.{Settings}
 use Rattle.cadence_host.specs.declared.call.CTag.{CTag}
 use Rattle.cadence_host.specs.declared.call.CDecimal.{CDecimal}
 use Rattle.cadence_host.specs.declared.call.COptions.{COptions}
+use Rattle.cadence_host.specs.declared.settings.CSettings.{CSettings}
 
 -- the number of sets in C
 abbrev pub CADENCE_SET : ℕ
@@ -37,6 +40,20 @@ kind_named n =
     if n == 0 then Some Counter else if n == 1 then Some Timer else if n == 2 then Some Gauge
     else if n == 3 then Some Meter else if n == 4 then Some Histogram else if n == CADENCE_SET then Some Set
     else if n == 6 then Some Distribution else if n == CADENCE_CHANGE then Some Gauge else None
+
+-- the greatest number that a cardinality has in C
+abbrev pub CADENCE_CARDINALITY_HIGH : ℕ
+CADENCE_CARDINALITY_HIGH = 4
+
+-- the cardinality that has this number in C
+abbrev pub cardinality_named : ℕ → Option Cardinality
+cardinality_named n =
+    if n == 1 then Some NoTags else if n == 2 then Some Low else if n == 3 then Some Orchestrator
+    else if n == CADENCE_CARDINALITY_HIGH then Some High else None
+
+-- the enrichment with the cardinality that has this number in C, or as it is if none has it
+abbrev pub with_c_cardinality : Enrichment → ℕ → Enrichment
+with_c_cardinality e n = record e { cardinality = option_or (cardinality_named n) e.cardinality }
 
 -- the tag of a struct of C: its text, and its key if the struct says that it has one
 abbrev pub c_tag : CTag → Tag
@@ -106,13 +123,14 @@ c_tag_as is_cleaned tag = tag_as is_cleaned (c_tag tag)
 abbrev pub with_c_tags : Bool → Metric → List CTag → Metric
 with_c_tags is_cleaned m tags = record m { tags = m.tags ++ map (c_tag_as is_cleaned) tags }
 
--- the metric with options: their tags come after its own, and their rate, container and time replace its own if they
--- have these. The texts of the options are as they are, or cleaned (`true`).
+-- the metric with options: their tags come after its own, and their rate, container, cardinality and time replace its
+-- own if they have these. The texts of the options are as they are, or cleaned (`true`).
 abbrev pub with_options : Bool → Metric → COptions → Option Number → Metric
 with_options is_cleaned m o rate = record m {
   rate = option_or rate m.rate;
   tags = m.tags ++ map (c_tag_as is_cleaned) o.tags.now;
   container = if o.contained then Some (text_as is_cleaned o.container.now) else m.container;
+  enrichment = with_c_cardinality m.enrichment o.cardinality;
   time = if o.timed then Some o.time else m.time;
 }
 
@@ -179,9 +197,18 @@ IsUtf8Call key o = IsUtf8 key × IsUtf8Options o
 abbrev pub IsUtf8IfKnown : List ℕ → COptions → Type 0
 IsUtf8IfKnown key o = o.known ≡ true → IsUtf8Call key o
 
--- No kind has the number k, or the rate has too many decimal places.
-abbrev pub IsInvalidCall : ℕ → COptions → Type 0
-IsInvalidCall k o = (kind_named k ≡ None) ⊎ HasInvalidRate o
+-- The numbers of the cardinalities that the settings and the options name are 0, for none, or those of cardinalities.
+pub record AreCardinalities (c : CSettings) (o : COptions) : Type 0 where
+  pub settings : c.cardinality ≤ CADENCE_CARDINALITY_HIGH
+  pub options : o.cardinality ≤ CADENCE_CARDINALITY_HIGH
+
+-- The number of the cardinality that the settings or the options name is neither 0 nor that of a cardinality.
+abbrev pub HasInvalidCardinality : CSettings → COptions → Type 0
+HasInvalidCardinality c o = (CADENCE_CARDINALITY_HIGH < c.cardinality) ⊎ (CADENCE_CARDINALITY_HIGH < o.cardinality)
+
+-- No kind has the number k, the rate has too many decimal places, or a cardinality is unknown.
+abbrev pub IsInvalidCall : CSettings → ℕ → COptions → Type 0
+IsInvalidCall c k o = (kind_named k ≡ None) ⊎ (HasInvalidRate o ⊎ HasInvalidCardinality c o)
 
 -- whether the container of the options, if they have one, has no separator
 abbrev pub is_free_container : COptions → Bool

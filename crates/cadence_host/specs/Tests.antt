@@ -16,4 +16,4 @@ pub record IsAllowed (s : ℕ) (allowed : Bool) : Type 0 where
 pub record Tests (s : ℕ) (c : CSettings) (kind : ℕ) (key : List ℕ) (lacks : Type 0) (o : COptions) : Type 0 where
   pub separators : IsAllowed s (allows_c_call c.strict key o)
   pub text : s ≡ CADENCE_NOT_UTF8 → IsUtf8Settings c → IsUtf8Call key o → ⊥
-  pub invalid : s ≡ CADENCE_INVALID → IsInvalidCall kind o ⊎ lacks
+  pub invalid : s ≡ CADENCE_INVALID → IsInvalidCall c kind o ⊎ lacks

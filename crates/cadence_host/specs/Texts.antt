@@ -1,12 +1,12 @@
 -- Settings as texts that the host keeps.
-use Rattle.std.specs.Prelude.{◌≡◌, ℕ, List, map, Bool, true, Option, Some, None, if◌then◌else◌, not, ◌||◌}
+use Rattle.std.specs.Prelude.{◌≡◌, ℕ, List, [], ◌∷◌, map, Bool, true, Option, Some, None, if◌then◌else◌, not, ◌||◌}
 use Rattle.std.specs.List.{list_all}
 use Rattle.std.specs.Option.{option_copied}
 use Rattle.std.specs.Str.{IsUtf8}
 use Rattle.cadence_text.specs.Line.{tags_field}
 use Rattle.cadence_text.specs.FreeTexts.{is_clear_tag, is_free_text}
 use Rattle.cadence_settings.specs.Settings.{Settings, client_prefix}
-use Rattle.cadence_host.specs.Calls.{IsLineOfCall, c_tag, is_clear_call_of_c}
+use Rattle.cadence_host.specs.Calls.{AreCardinalities, IsLineOfCall, c_tag, cardinality_named, is_clear_call_of_c}
 use Rattle.cadence_host.specs.declared.call.COptions.{COptions}
 use Rattle.cadence_host.specs.declared.call.CTag.{CTag}
 use Rattle.cadence_host.specs.declared.settings.CSettings.{CSettings}
@@ -16,11 +16,18 @@ use Rattle.cadence_host.specs.declared.settings.Texts.{Texts}
 abbrev pub container_of : CSettings → Option (List ℕ)
 container_of c = if c.contained then Some c.container.now else None
 
--- The texts of C are those of these settings.
+-- the text, or none if it is empty
+abbrev pub text_if_any : List ℕ → Option (List ℕ)
+text_if_any [] = None
+text_if_any (x ∷ xs) = Some (x ∷ xs)
+
+-- The texts of C are those of these settings, and so is the cardinality.
 pub record AreTextsOf (c : CSettings) (s : Settings) : Type 0 where
   pub prefix : c.prefix.now ≡ s.prefix
   pub tags : c.tags.now ≡ tags_field s.tags
   pub container : container_of c ≡ s.container
+  pub external : text_if_any c.external.now ≡ s.enrichment.external
+  pub cardinality : cardinality_named c.cardinality ≡ s.enrichment.cardinality
   pub strict : c.strict ≡ s.strict
   pub cleaned : c.cleaned ≡ s.cleaned
 
@@ -29,12 +36,15 @@ pub record IsUtf8Settings (c : CSettings) : Type 0 where
   pub prefix : IsUtf8 c.prefix.now
   pub tags : IsUtf8 c.tags.now
   pub container : c.contained ≡ true → IsUtf8 c.container.now
+  pub external : IsUtf8 c.external.now
 
--- The texts that were read are those of these settings.
+-- The texts that were read are those of these settings, and so is the cardinality.
 pub record HasTextsOf (t : Texts) (s : Settings) : Type 0 where
   pub prefix : t.prefix.now ≡ s.prefix
   pub tags : t.tags.now ≡ tags_field s.tags
   pub container : option_copied t.container ≡ s.container
+  pub external : option_copied t.enrichment.external ≡ s.enrichment.external
+  pub cardinality : t.enrichment.cardinality ≡ s.enrichment.cardinality
 
 -- whether settings allow the texts of a call: all texts, or if they are strict, those of a clear call
 abbrev pub allows_c_call : Bool → List ℕ → COptions → Bool
@@ -48,6 +58,8 @@ allows_prefix strict prefix = not strict || is_free_text (client_prefix prefix)
 abbrev pub allows_tags : Bool → List CTag → Bool
 allows_tags strict tags = not strict || list_all is_clear_tag (map c_tag tags)
 
--- For all settings that have these texts, this is the line of the call whose value has this text.
-abbrev pub IsLineWith : CSettings → ℕ → List ℕ → List ℕ → COptions → List ℕ → Type 0
-IsLineWith c k key value o line = (s : Settings) → AreTextsOf c s → IsLineOfCall s k key value o line
+-- For all settings that have these texts, this is the line of the call whose value has this text. The cardinalities of the
+-- settings and of the call are known.
+pub record IsLineWith (c : CSettings) (k : ℕ) (key value : List ℕ) (o : COptions) (line : List ℕ) : Type 0 where
+  pub cardinalities : AreCardinalities c o
+  pub meant : (s : Settings) → AreTextsOf c s → IsLineOfCall s k key value o line

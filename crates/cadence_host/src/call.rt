@@ -5,12 +5,12 @@ ghost use Rattle.std.specs.Str.{IsUtf8};
 ghost use Rattle.cadence_text.specs.FreeTexts.{is_clear_tag};
 ghost use Rattle.cadence_text.specs.Record.{tag_of as record_tag};
 ghost use Rattle.cadence_host.specs.declared.status.StatusError.TheVariants.{Invalid};
-ghost use Rattle.cadence_host.specs.Calls.{IsUtf8Options, c_tag, kind_named, HasInvalidRate, IsNumberOf, IsRateOf, IsUtf8Tag, are_clear_options};
+ghost use Rattle.cadence_host.specs.Calls.{IsUtf8Options, c_tag, cardinality_named, kind_named, HasInvalidRate, IsNumberOf, IsRateOf, IsUtf8Tag, are_clear_options};
 
 use crate::ascii::is_ascii;
 use crate::status::StatusError;
 use cadence_settings::{tag_is_clear, text_is_free};
-use cadence_text::line::{MetricType, Tag};
+use cadence_text::line::{Cardinality, MetricType, Tag};
 use cadence_value::decimal::Decimal;
 use std::str;
 
@@ -32,8 +32,8 @@ pub struct CDecimal {
 }
 
 /// What a call adds to its metric, besides what the client adds: tags, and a container, a sampling rate and a time if
-/// `contained`, `rated` and `timed` are set. If `known` is set, the host knows that the texts of the call are UTF-8,
-/// and they are not tested.
+/// `contained`, `rated` and `timed` are set. `cardinality` is the number of the cardinality, which replaces the default
+/// one, or 0 for none. If `known` is set, the host knows that the texts of the call are UTF-8, and they are not tested.
 #[repr(C)]
 #[derive(Clone, Copy)]
 pub struct COptions<'a> {
@@ -45,12 +45,15 @@ pub struct COptions<'a> {
     pub rated: bool,
     pub timed: bool,
     pub known: bool,
+    pub cardinality: u32,
 }
 
 /// The number of sets in C.
 pub const SET: u32 = 5;
 /// The number by which C names a change of a gauge, in place of a kind.
 pub const CHANGE: u32 = 7;
+/// The greatest number that a cardinality has in C.
+pub const HIGH: u32 = 4;
 
 /// Returns the kind that has this number in C, if one has it. A change belongs to a gauge.
 pub fn kind_of(kind: u32) -> Option<MetricType>
@@ -65,6 +68,20 @@ pub fn kind_of(kind: u32) -> Option<MetricType>
         SET => Some(MetricType::Set),
         6 => Some(MetricType::Distribution),
         CHANGE => Some(MetricType::Gauge),
+        _ => None,
+    }
+}
+
+/// Returns the cardinality that has this number in C, if one has it.
+#[inline(always)]
+pub fn cardinality_of(number: u32) -> Option<Cardinality>
+    ensures { result ≡ cardinality_named number }
+{
+    match number {
+        1 => Some(Cardinality::NoTags),
+        2 => Some(Cardinality::Low),
+        3 => Some(Cardinality::Orchestrator),
+        HIGH => Some(Cardinality::High),
         _ => None,
     }
 }

@@ -11,12 +11,14 @@ ghost use Rattle.cadence_text.specs.TextValue.{value_kind, value_text};
 ghost use Rattle.cadence_value.specs.Number.{numbers_text};
 ghost use Rattle.cadence_value.specs.Values.{numbers_of};
 ghost use Rattle.cadence_host.specs.Status.{status, CADENCE_INVALID, CADENCE_NOT_UTF8, CADENCE_SEPARATOR, IsOkOr};
-ghost use Rattle.cadence_host.specs.Calls.{IsUtf8Options, IsInvalidCall, IsRateOf, IsUtf8Call, IsUtf8IfKnown, IsUtf8Tag, kind_named, with_c_tags, with_options};
+ghost use Rattle.cadence_host.specs.Calls.{AreCardinalities, IsUtf8Options, IsInvalidCall, IsRateOf, IsUtf8Call, IsUtf8IfKnown, IsUtf8Tag, kind_named, with_c_cardinality, with_c_tags, with_options};
 ghost use Rattle.cadence_host.specs.Texts.{AreTextsOf, HasTextsOf, IsUtf8Settings, allows_c_call};
 ghost use Rattle.cadence_host.specs.Tested.{IsLineOfTested};
 ghost use Rattle.cadence_text.specs.declared.line.MetricType.{MetricType};
 
-use crate::call::{COptions, CTag, are_texts, kind_of, known_tag, rate_of, read_text};
+use crate::call::{
+    COptions, CTag, HIGH, are_texts, cardinality_of, kind_of, known_tag, rate_of, read_text,
+};
 use crate::settings::{CSettings, Texts, allows_c_call, read_settings};
 use crate::status::StatusError;
 use cadence_text::line::{DraftLine, Head, MetricType, TextValue};
@@ -36,11 +38,11 @@ pub struct TestedCall<'a> {
     pub is_cleaned: bool,
 }
 
-/// Tests a call: the texts of its settings, its key, its kind, the texts of its options, its rate, and the separators in
-/// these texts if the settings are strict, in this order. The error is `NotUtf8` if a text is not UTF-8, `Invalid` if
-/// the kind is unknown or the rate has more than 30 places, and `Separator` if the settings are strict and the key or a
-/// text of the options has a separator, other than a colon after the key of a tag. The line is begun only after this
-/// test, so a call that fails it takes no memory.
+/// Tests a call: the texts of its settings, its key, its kind, the texts of its options, its rate, the cardinalities of
+/// the settings and of the options, and the separators in these texts if the settings are strict, in this order. The
+/// error is `NotUtf8` if a text is not UTF-8, `Invalid` if the kind or a cardinality is unknown or the rate has more
+/// than 30 places, and `Separator` if the settings are strict and the key or a text of the options has a separator, other
+/// than a colon after the key of a tag. The line is begun only after this test, so a call that fails it takes no memory.
 // Without this hint a counter of `bindings/c/speed.c` takes 40 instructions more.
 #[inline(always)]
 pub fn test_call<'a>(
@@ -63,7 +65,9 @@ pub fn test_call<'a>(
         IsFalse (allows_c_call settings.now.strict key.now options.now) }
     ensures text { status result ≡ CADENCE_NOT_UTF8 →
         IsUtf8Settings settings.now → IsUtf8Call key.now options.now → ⊥ }
-    ensures invalid { status result ≡ CADENCE_INVALID → IsInvalidCall kind options.now }
+    ensures cardinalities { OnOk result (AreCardinalities settings.now options.now) }
+    ensures invalid { status result ≡ CADENCE_INVALID →
+        IsInvalidCall settings.now kind options.now }
     ensures statuses { IsOkOr (CADENCE_INVALID ∷ CADENCE_NOT_UTF8 ∷ CADENCE_SEPARATOR ∷ [])
         (status result) }
 {
@@ -80,6 +84,9 @@ pub fn test_call<'a>(
         return Err(StatusError::NotUtf8);
     }
     let rate = rate_of(options)?;
+    if settings.cardinality > HIGH || options.cardinality > HIGH {
+        return Err(StatusError::Invalid);
+    }
     if !allows_c_call(settings.strict, key, options) {
         return Err(StatusError::Separator);
     }
@@ -92,8 +99,8 @@ pub fn test_call<'a>(
     })
 }
 
-// A rate, a time and the signs before a container take at most 60 bytes. This is a little more.
-const RATE_AND_TIME: usize = 64;
+// A rate, a cardinality, a time and the signs before a container take at most 78 bytes. This is a little more.
+const RATE_AND_TIME: usize = 80;
 
 // How many bytes a draft in a buffer reserves for the options of the call.
 const OWN_BYTES: usize = 96;
@@ -182,7 +189,8 @@ impl LineValue for MetricValue {
         };
         let (tags, container) = (call.texts.tags, call.texts.container);
         let room = room_for_options(options, out_len);
-        let draft = DraftLine::new(alloc, &head, tags, container, room)?;
+        let mut draft = DraftLine::new(alloc, &head, tags, container, room)?;
+        draft.set_enrichment(call.texts.enrichment);
         finish_line(draft, options, call.rate, call.is_cleaned)
     }
 
@@ -202,10 +210,11 @@ impl LineValue for MetricValue {
         };
         let (tags, container) = (call.texts.tags, call.texts.container);
         // The draft is large, and a `?` here would copy it once more.
-        let draft = match DraftLine::in_buffer(buffer, &head, tags, container, OWN_BYTES) {
+        let mut draft = match DraftLine::in_buffer(buffer, &head, tags, container, OWN_BYTES) {
             Ok(draft) => draft,
             Err(error) => return Err(error),
         };
+        draft.set_enrichment(call.texts.enrichment);
         finish_line(draft, options, call.rate, call.is_cleaned)
     }
 }
@@ -235,17 +244,18 @@ impl LineValue for &TextValue<'_> {
         options: &COptions<'a>,
     ) -> Result<Vec<u8>, AllocError> {
         let (prefix, tags, container) = (call.texts.prefix, call.texts.tags, call.texts.container);
-        let draft = match DraftLine::of_text(
+        let mut draft = match DraftLine::of_text(
             buffer, prefix, key, self, tags, container, OWN_BYTES,
         ) {
             Ok(draft) => draft,
             Err(error) => return Err(error),
         };
+        draft.set_enrichment(call.texts.enrichment);
         finish_line(draft, options, call.rate, call.is_cleaned)
     }
 }
 
-// Sets the rate, the container and the time of a line from the options of its call.
+// Sets the rate, the container, the cardinality and the time of a line from the options of its call.
 fn set_options<'a>(
     draft: &mut DraftLine<'a>,
     options: &COptions<'a>,
@@ -257,6 +267,7 @@ fn set_options<'a>(
       rate = option_or rate draft.old.rate;
       container = if options.now.contained
           then Some (text_as is_cleaned options.now.container.now) else draft.old.container;
+      enrichment = with_c_cardinality (draft.old).enrichment options.now.cardinality;
       time = if options.now.timed then Some options.now.time else draft.old.time;
     } }
 {
@@ -266,6 +277,9 @@ fn set_options<'a>(
     if options.contained {
         let container = unsafe { str::from_utf8_unchecked(options.container) };
         draft.set_container_as(container, is_cleaned);
+    }
+    if let Some(cardinality) = cardinality_of(options.cardinality) {
+        draft.set_cardinality(cardinality);
     }
     if options.timed {
         draft.set_time(options.time);

@@ -1,6 +1,6 @@
 -- Runs over a packet log with a newline after each line, and the metrics that are read from their packets.
 use Rattle.std.specs.Prelude.{◌≡◌, ℕ, true, List, [], ◌∷◌, ◌++◌, Option, All, codes}
-use Rattle.cadence_text.specs.Metric.{Metric}
+use Rattle.cadence_text.specs.Metric.{Metric, no_enrichment}
 use Rattle.cadence_text.specs.OneReading.{IsFreeOfSeparators}
 use Rattle.cadence_flow.specs.Log.{LogState, has_no_short, log_history, log_kind, new_log}
 use Rattle.cadence_flow.specs.declared.io.packet_log.Answer.{Answer}
@@ -15,6 +15,10 @@ use Rattle.cadence_read.specs.Listed.{AreListed}
 -- The log has no packets and no refusals yet, and none of its answers is short.
 abbrev pub IsNewWhole : LogState → Type 0
 IsNewWhole log = (script : List Answer) × (log ≡ new_log script) × (has_no_short script ≡ true)
+
+-- The metric has neither external data nor a cardinality.
+abbrev pub IsBare : Metric → Type 0
+IsBare metric = metric.enrichment ≡ no_enrichment
 
 module _ {A : Type 0} where
   -- the input of the run, as the headline sees it
@@ -36,9 +40,9 @@ module _ {A : Type 0} where
   kept_metrics given outcome = kept given.metric_of (turns_of log_history given outcome)
 
   -- The packets of the run are not those of any metrics. If the log was new and none of its answers was short, then a
-  -- kept metric has a separator.
+  -- kept metric has a separator, external data or a cardinality.
   abbrev pub IsUnreadable : LogState → Given A → Type 0
   IsUnreadable log given =
       (outcome : Outcome LogState A) × IsRun given outcome
       × ((metrics : List Metric) → AreListed (texts_of_run outcome) metrics → ⊥)
-      × (IsNewWhole log → All IsFreeOfSeparators (kept_metrics given outcome) → ⊥)
+      × (IsNewWhole log → All IsFreeOfSeparators (kept_metrics given outcome) → All IsBare (kept_metrics given outcome) → ⊥)

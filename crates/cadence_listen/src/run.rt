@@ -5,7 +5,7 @@ ghost use Rattle.cadence_text.specs.Owned.{metrics_of};
 ghost use Rattle.cadence_schedule.specs.Report.{outcome_of};
 ghost use Rattle.cadence_read.specs.Listed.{AreListed};
 ghost use Rattle.cadence_read.specs.Faults.{not_metrics};
-ghost use Rattle.cadence_listen.specs.RunRead.{IsNewWhole, IsRun, given_to, kept_metrics, IsUnreadable, texts_of_run};
+ghost use Rattle.cadence_listen.specs.RunRead.{IsBare, IsNewWhole, IsRun, given_to, kept_metrics, IsUnreadable, texts_of_run};
 
 use cadence_flow::io::PacketLog;
 use cadence_read::{ReadFault, read_run};
@@ -18,8 +18,8 @@ use std::alloc::Allocator;
 /// of the log's packets and of the held text.
 ///
 /// A call is kept if it was accepted, and its line was handed on and not refused. If the log is new, none of its
-/// answers is short, and the metrics of the kept calls have no separators, then exactly these metrics are read, in
-/// order.
+/// answers is short, and the metrics of the kept calls have no separators, no external data and no cardinality, then
+/// exactly these metrics are read, in order.
 ///
 /// # Errors
 /// `Unusable(NotMetrics)` if a packet or the held text is not the packet of any metrics, and `OutOfMemory`.
@@ -38,6 +38,7 @@ pub fn run_and_read<A: Allocator + Clone>(
     ensures kept { let given = given_to settings.now capacity queue steps.now log in
         IsNewWhole log → IfOk result (λ both.
         All IsFreeOfSeparators (kept_metrics given (outcome_of both.0)) →
+        All IsBare (kept_metrics given (outcome_of both.0)) →
         metrics_of both.1 ≡ kept_metrics given (outcome_of both.0)) }
     ensures refused { result ≡ Err not_metrics →
         IsUnreadable log (given_to settings.now capacity queue steps.now log) }

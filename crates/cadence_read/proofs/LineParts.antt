@@ -14,12 +14,12 @@ use Rattle.std.proofs.lemmas.List.Elements.{All-weaker, recursion_from_All}
 use Rattle.std.proofs.lemmas.List.Splits.{join_with_byte-slice_split, length-slice_split}
 use Rattle.std.proofs.Math.Seq.{get_or-append_seam}
 use Rattle.cadence_text.specs.Line.{kind_text, tag_text, line_of}
-use Rattle.cadence_text.specs.Metric.{Metric, Tag}
+use Rattle.cadence_text.specs.Metric.{Enrichment, Metric, Tag, no_enrichment}
 use Rattle.cadence_value.specs.Number.{IsDecimal, Number, decimal_text, number_text, numbers_text}
 use Rattle.cadence_text.specs.OneReading.{IsFreeText, IsFreeTag, IsNoSeparator}
 use Rattle.cadence_text.specs.Representable.{IsRepresentableTag}
 use Rattle.cadence_value.proofs.lists.SplitTexts.{Lacks, Stops, cut_at}
-use Rattle.cadence_text.proofs.grammar.LineText.{marked, parts_of, front_of, last_of, rate_part, tags_part, container_part, time_part}
+use Rattle.cadence_text.proofs.grammar.LineText.{container_part, enrichment_parts, front_of, last_of, marked, parts_of, rate_part, tags_part, time_part}
 use Rattle.cadence_text.proofs.grammar.LineText.{joined_texts-joined, line_of-joined, lacks_bars}
 use Rattle.cadence_read.specs.LineTexts.{LineTexts, tags_text, field_texts, field_part, field_parts, parts_of_texts, pieces_left, IsMarked}
 use Rattle.cadence_read.specs.Listed.{IsListed, IsListedTag, IsText}
@@ -160,10 +160,11 @@ time_same : (o : Option ℕ) → field_part (codes "T") (option_map decimal_text
 time_same (Some t) = refl
 time_same None = refl
 
-pub parts_same : (m : Metric) → parts_of_texts (field_texts m) ≡ parts_of m
-parts_same m =
+pub parts_same : (m : Metric) → m.enrichment ≡ no_enrichment → parts_of_texts (field_texts m) ≡ parts_of m
+parts_same m bare =
     let front : m.name ++ (58 ∷ numbers_text m.numbers) ≡ front_of m = ap (λ t. m.name ++ (58 ∷ t)) (joined_texts-joined 58 number_text m.numbers) in
-    let later = ap₂ (λ a b. a ++ b) (container_same m.container) (time_same m.time) in
+    let later = ap₂ (λ a b. a ++ b) (container_same m.container) (time_same m.time)
+    ∙ ap (λ e. container_part m.container ++ (enrichment_parts e ++ time_part m.time)) (sym bare) in
     let last : field_parts (field_texts m) ≡ last_of m = ap₂ (λ a b. a ++ b) (rate_same m.rate) (ap₂ (λ a b. a ++ b) (tags_same m.tags) later) in
     ap₂ (λ a b. a ∷ kind_text m.kind ∷ b) front last
 
@@ -182,21 +183,24 @@ text_some None free utf8 = tt
 
 -- A metric can be read if its parts can be read, and only then.
 pub listed : (m : Metric) → IsText m.name → All IsDecimal m.numbers → IfSome m.rate IsDecimal → All IsListedTag m.tags
-    → IfSome m.container IsText → IfSome m.time (λ time. time < 2 ^ 64) → IsListed m
-listed m name numbers rate tags container time = record {
+    → IfSome m.container IsText → IfSome m.time (λ time. time < 2 ^ 64) → m.enrichment ≡ no_enrichment → IsListed m
+listed m name numbers rate tags container time bare = record {
   representable = record {
     name = name.1;
     numbers = numbers;
     rate = rate;
     tags = All-weaker IsListedTag IsRepresentableTag (λ tag h. h.representable) m.tags tags;
     container = utf8_some m.container container;
+    external = subst (λ (e : Enrichment). IfSome e.external IsUtf8) (sym bare) tt;
     time = time;
   };
   free = record {
     name = name.0;
     tags = All-weaker IsListedTag IsFreeTag (λ tag h. h.free) m.tags tags;
     container = free_some m.container container;
+    external = subst (λ (e : Enrichment). IfSome e.external IsFreeText) (sym bare) tt;
   };
+  bare = bare;
 }
 
 pub name_listed : (m : Metric) → IsListed m → IsText m.name
@@ -217,19 +221,20 @@ text_listed tag h = (h.free.text, h.representable.text)
 
 pub line_cut : (m : Metric) (line : List ℕ) → IsListed m → line_of m ≡ line → parts_of_texts (field_texts m) ≡ pieces 124 line
 line_cut m line h e =
-    parts_same m ∙ sym (pieces-joined 124 (front_of m) (kind_text m.kind ∷ last_of m) (lacks_bars m h.free))
+    parts_same m h.bare ∙ sym (pieces-joined 124 (front_of m) (kind_text m.kind ∷ last_of m) (lacks_bars m h.free))
     ∙ ap (pieces 124) (sym (line_of-joined m) ∙ e)
 
-pub line_found : (m : Metric) (line : List ℕ) → parts_of_texts (field_texts m) ≡ pieces 124 line → line_of m ≡ line
-line_found m line e = line_of-joined m ∙ ap (join_with_byte 124) (sym (parts_same m) ∙ e) ∙ join_with_byte-slice_split 124 line
+pub line_found : (m : Metric) (line : List ℕ) → m.enrichment ≡ no_enrichment → parts_of_texts (field_texts m) ≡ pieces 124 line → line_of m ≡ line
+line_found m line bare e = line_of-joined m ∙ ap (join_with_byte 124) (sym (parts_same m bare) ∙ e) ∙ join_with_byte-slice_split 124 line
 
 -- The name of a metric that can be read has no colon.
 pub name_plain : (m : Metric) → IsListed m → All (λ byte. byte ≢ 58) m.name
 name_plain m h = All-weaker IsNoSeparator (λ byte. byte ≢ 58) (λ b p. p.0) m.name h.free.name
 
 -- A metric that can be read has this line exactly if its fields have these texts.
-pub line_from_texts : (m : Metric) (line : List ℕ) (t : LineTexts) → parts_of_texts t ≡ pieces 124 line → field_texts m ≡ t → line_of m ≡ line
-line_from_texts m line t parts e = line_found m line (ap parts_of_texts e ∙ parts)
+pub line_from_texts : (m : Metric) (line : List ℕ) (t : LineTexts) → IsListed m → parts_of_texts t ≡ pieces 124 line → field_texts m ≡ t
+    → line_of m ≡ line
+line_from_texts m line t h parts e = line_found m line h.bare (ap parts_of_texts e ∙ parts)
 
 pub texts_from_line : (m : Metric) (line : List ℕ) (t : LineTexts) → IsListed m → All (λ byte. byte ≢ 58) t.name
     → parts_of_texts t ≡ pieces 124 line → line_of m ≡ line → field_texts m ≡ t

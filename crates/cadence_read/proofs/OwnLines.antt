@@ -6,7 +6,8 @@ use Rattle.std.proofs.lemmas.List.{get_or_append_left}
 use Rattle.std.proofs.lemmas.List.Elements.{All-from_recursion, All-weaker, recursion_from_All}
 use Rattle.std.proofs.Math.Seq.{get_or-append_seam}
 use Rattle.cadence_text.proofs.grammar.LineText.{clear_lacks_bars, joined_texts-joined}
-use Rattle.cadence_text.specs.Line.{container_field, kind_text, line_of, rate_field, tags_field, time_field}
+use Rattle.cadence_text.specs.declared.line.enrichment.Cardinality.{Cardinality}
+use Rattle.cadence_text.specs.Line.{cardinality_field, container_field, external_field, kind_text, line_of, rate_field, tags_field, time_field}
 use Rattle.cadence_text.specs.Metric.{Metric, Tag}
 use Rattle.cadence_text.specs.OneReading.{IsClear, IsNoSeparator}
 use Rattle.cadence_value.proofs.lists.SplitTexts.{Begins, Lacks, cut_at, each_append}
@@ -77,13 +78,16 @@ own_is_other m h = (
 )
 
 -- Other fields begin with a bar.
-own_fields : (rate : Option Number) (tags : List Tag) (container : Option (List ℕ)) (time : Option ℕ)
-    → AreFields (rate_field rate ++ (tags_field tags ++ (container_field container ++ time_field time)))
-own_fields (Some _) tags container time = refl
-own_fields None (_ ∷ _) container time = refl
-own_fields None [] (Some _) time = refl
-own_fields None [] None (Some _) = refl
-own_fields None [] None None = tt
+own_fields : (rate : Option Number) (tags : List Tag) (container external : Option (List ℕ)) (cardinality : Option Cardinality) (time : Option ℕ)
+    → AreFields (rate_field rate
+    ++ (tags_field tags ++ (container_field container ++ ((external_field external ++ cardinality_field cardinality) ++ time_field time))))
+own_fields (Some _) tags container external cardinality time = refl
+own_fields None (_ ∷ _) container external cardinality time = refl
+own_fields None [] (Some _) external cardinality time = refl
+own_fields None [] None (Some _) cardinality time = refl
+own_fields None [] None None (Some _) time = refl
+own_fields None [] None None None (Some _) = refl
+own_fields None [] None None None None = tt
 
 pub own_cut : (m : Metric) → IsClear m → IsCut (line_of m) (own_parts m)
 unfolding line_of
@@ -96,5 +100,5 @@ own_cut m h =
       name = All-from_recursion (λ byte. byte ≢ 124) m.name (lacks_bar m.name h.name);
       values = All-from_recursion (λ byte. byte ≢ 124) (numbers_text m.numbers) front.1.1;
       kind = All-from_recursion (λ byte. byte ≢ 124) (kind_text m.kind) bars.1.0;
-      fields = own_fields m.rate m.tags m.container m.time;
+      fields = own_fields m.rate m.tags m.container m.enrichment.external m.enrichment.cardinality m.time;
     }

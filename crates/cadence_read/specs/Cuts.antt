@@ -1,6 +1,6 @@
 -- What the line of any client of Statsd or DogStatsD is: a metric, an event, a service check, or none of these.
 use Rattle.std.specs.Prelude.{◌≡◌, ◌≢◌, ⊤, ℕ, List, [], ◌∷◌, ◌++◌, All, codes}
-use Rattle.cadence_text.specs.Line.{container_field, kind_text, line_of, rate_field, tags_field, time_field}
+use Rattle.cadence_text.specs.Line.{container_field, enrichment_fields, kind_text, line_of, rate_field, tags_field, time_field}
 use Rattle.cadence_text.specs.Metric.{Metric}
 use Rattle.cadence_text.specs.OneReading.{IsClear, IsNoSeparator}
 use Rattle.cadence_value.specs.Finds.{HasNone}
@@ -69,7 +69,8 @@ own_parts m = record {
   name = m.name;
   values = numbers_text m.numbers;
   kind = kind_text m.kind;
-  fields = rate_field m.rate ++ (tags_field m.tags ++ (container_field m.container ++ time_field m.time));
+  fields = rate_field m.rate ++ (tags_field m.tags
+      ++ (container_field m.container ++ (enrichment_fields m.enrichment ++ time_field m.time)));
 }
 
 -- A line has at most one way to be cut. The line of a clear metric is neither an event nor a service check, and its parts

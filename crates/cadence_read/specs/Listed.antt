@@ -4,7 +4,7 @@ use Rattle.std.specs.List.{AllZip, flat_map}
 use Rattle.std.specs.Str.{IsUtf8}
 use Rattle.cadence_text.specs.declared.line.record.owned.OwnedMetric.{OwnedMetric}
 use Rattle.cadence_text.specs.Line.{line_of}
-use Rattle.cadence_text.specs.Metric.{Metric, Tag}
+use Rattle.cadence_text.specs.Metric.{Metric, Tag, no_enrichment}
 use Rattle.cadence_text.specs.OneReading.{IsFreeOfSeparators, IsFreeTag, IsFreeText, IsPacketOf}
 use Rattle.cadence_text.specs.Owned.{metrics_of}
 use Rattle.cadence_text.specs.Representable.{IsRepresentable, IsRepresentableTag}
@@ -20,10 +20,11 @@ pub record IsListedTag (tag : Tag) : Type 0 where
   pub representable : IsRepresentableTag tag
   pub free : IsFreeTag tag
 
--- Rust values can represent the metric, and its texts have no separators.
+-- Rust values can represent the metric, its texts have no separators, and it has neither external data nor a cardinality.
 pub record IsListed (metric : Metric) : Type 0 where
   pub representable : IsRepresentable metric
   pub free : IsFreeOfSeparators metric
+  pub bare : metric.enrichment ≡ no_enrichment
 
 -- The metric can be read from a packet, and this is its line.
 abbrev pub IsMetricOf : List ℕ → Metric → Type 0

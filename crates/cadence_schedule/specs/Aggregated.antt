@@ -1,5 +1,5 @@
 -- What holds of each run with an aggregator, in the terms of the headline, the main theorem on runs without one.
-use Rattle.std.specs.Prelude.{List, true, string_bytes}
+use Rattle.std.specs.Prelude.{◌≡◌, ◌-◌, List, [], Ok, Some, length, slice_get, string_bytes, true}
 use Rattle.std.specs.Option.{option_map}
 use Rattle.cadence_aggregate.specs.Aggregate.{held}
 use Rattle.cadence_aggregate.specs.Server.{Sample}
@@ -11,6 +11,8 @@ use Rattle.cadence_schedule.specs.Report.{Outcome}
 use Rattle.cadence_schedule.specs.Asked.{AskAll}
 use Rattle.cadence_stage.specs.Call.{Call}
 use Rattle.cadence_schedule.specs.declared.aggregated_report.AggregatedReport.{AggregatedReport}
+use Rattle.cadence_schedule.specs.declared.steps.Reply.TheVariants as reply
+use Rattle.cadence_schedule.specs.declared.steps.Step.TheVariants as step
 
 -- the outcome that a report shows
 abbrev pub outcome_shown : {W A : Type 0} → AggregatedReport W A → Outcome W A
@@ -49,3 +51,6 @@ module _ {W A : Type 0} (history : W → PacketHistory) (given : Given A) (outco
     -- The lines that the packer kept, with what the aggregator holds, are a summary of the accepted lines that were
     -- taken and handed on with the result Ok: a server knows the same after both.
     pub summary : Summarizes (kept_of history given outcome) (lines_in all) summed
+    -- If the last step is a flush that returned Ok, the aggregator holds nothing.
+    pub flushed : let turns = turns_of history given outcome in
+        slice_get turns (length turns - 1) ≡ Some (step.Flush, reply.Flushed (Ok tt)) → summed ≡ []

@@ -18,12 +18,12 @@ pub struct Losses {
 pub struct LossBoard {
     losses: Cell<Losses>,
     is_failing: Cell<bool>,
-    sums: Cell<Sums>,
+    added: Cell<AddedLines>,
 }
 
 // How many lines of the input were added up.
 #[derive(Clone, Copy, Debug, Default)]
-struct Sums {
+struct AddedLines {
     // All of them.
     taken: u64,
     // How many of them were added up before the last time that everything was sent, and how many packets had been lost
@@ -40,7 +40,7 @@ impl LossBoard {
         LossBoard {
             losses: Cell::new(Losses::default()),
             is_failing: Cell::new(false),
-            sums: Cell::new(Sums::default()),
+            added: Cell::new(AddedLines::default()),
         }
     }
 
@@ -52,28 +52,30 @@ impl LossBoard {
 
     // Notes that a line of the input was added up.
     pub(crate) fn note_added(&self) {
-        let mut sums = self.sums.get();
-        sums.taken = sums.taken.wrapping_add(1);
-        self.sums.set(sums);
+        let mut added = self.added.get();
+        added.taken = added.taken.wrapping_add(1);
+        self.added.set(added);
     }
 
     // Notes that everything was sent that was added up.
     pub(crate) fn note_sent(&self) {
-        let mut sums = self.sums.get();
-        sums.lost = self.lost_sums();
-        sums.sent = sums.taken;
-        sums.lost_packets = self.losses.get().packets;
-        self.sums.set(sums);
+        let mut added = self.added.get();
+        added.lost = self.lost_sums();
+        added.sent = added.taken;
+        added.lost_packets = self.losses.get().packets;
+        self.added.set(added);
     }
 
     // Returns an upper bound for the lines of the input whose sums were in lost packets. A packet that is lost after
     // everything was sent has sums of lines that were added up since then.
     pub(crate) fn lost_sums(&self) -> u64 {
-        let sums = self.sums.get();
-        if self.losses.get().packets == sums.lost_packets {
-            return sums.lost;
+        let added = self.added.get();
+        if self.losses.get().packets == added.lost_packets {
+            return added.lost;
         }
-        sums.lost.wrapping_add(sums.taken.wrapping_sub(sums.sent))
+        added
+            .lost
+            .wrapping_add(added.taken.wrapping_sub(added.sent))
     }
 
     // Returns how many packets were lost.
@@ -87,8 +89,8 @@ impl LossBoard {
     }
 
     // Returns what was lost, as messages say it.
-    pub(crate) fn summary(&self) -> LossSummary {
-        LossSummary {
+    pub(crate) fn report(&self) -> LossReport {
+        LossReport {
             losses: self.losses.get(),
             lost_sums: self.lost_sums(),
         }
@@ -97,13 +99,13 @@ impl LossBoard {
 
 // What was lost, as messages say it.
 #[derive(Clone, Copy, Debug)]
-pub(crate) struct LossSummary {
+pub(crate) struct LossReport {
     pub losses: Losses,
     // An upper bound for the lines of the input whose sums were in lost packets.
     pub lost_sums: u64,
 }
 
-impl fmt::Display for LossSummary {
+impl fmt::Display for LossReport {
     fn fmt<W: fmt::Write>(&self, f: &mut fmt::Formatter<W>) -> fmt::Result {
         let Losses {
             given,

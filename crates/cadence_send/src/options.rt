@@ -7,7 +7,7 @@ use cadence_environment::read_port;
 use cadence_errors::{InputError, MetricError};
 use cadence_flow::io::DEFAULT_CAPACITY;
 use cadence_settings::ClientSettings;
-use cadence_text::line::{OwnedTag, Tag, lend_tag};
+use cadence_text::line::{Cardinality, OwnedTag, Tag, lend_tag};
 use cadence_value::chance::Chance;
 use cadence_value::decimal::Decimal;
 use cadence_value::spelled::read_spelled;
@@ -34,6 +34,8 @@ pub struct Options<'a, A: Allocator> {
     pub tags: Vec<Tag<'a>, A>,
     /// The container.
     pub container: Option<&'a str>,
+    /// Which tags of the container a Datadog agent adds.
+    pub cardinality: Option<Cardinality>,
     /// The time in seconds since 1970.
     pub time: Option<u64>,
     /// What an event or a service check has besides.
@@ -186,6 +188,7 @@ impl<'a, A: Allocator> Options<'a, A> {
             prefix: "",
             tags: Vec::new(alloc),
             container: None,
+            cardinality: None,
             time: None,
             fields: Fields::NONE,
             rate: None,
@@ -226,6 +229,9 @@ impl<'a, A: Allocator> Options<'a, A> {
             Setting::Container => self.container = Some(read_word_for(value, is_cleaned).ok_or(
                 refused,
             )?),
+            Setting::Cardinality => self.cardinality = Some(Cardinality::from_text(value).ok_or(
+                refused,
+            )?),
             Setting::Time => self.time = Some(read_whole(value).ok_or(refused)?),
             Setting::Rate => self.rate = Some(read_positive(value).ok_or(refused)?),
             Setting::Sample => {
@@ -246,6 +252,7 @@ impl<'a, A: Allocator> Options<'a, A> {
     // Returns whether an option was set that can't be used with all words.
     fn is_set(&self, setting: Setting) -> bool {
         match setting {
+            Setting::Cardinality => self.cardinality.is_some(),
             // The option for the sample sets the rate too.
             Setting::Rate => self.rate.is_some() && self.sample.is_none(),
             Setting::Sample => self.sample.is_some(),
@@ -293,6 +300,9 @@ impl<'a, A: Allocator + Clone> Options<'a, A> {
         }
         if let Some(container) = self.container {
             settings.set_container(container)?;
+        }
+        if let Some(cardinality) = self.cardinality {
+            settings.set_cardinality(cardinality);
         }
         Ok(Defaults {
             settings,

@@ -5,7 +5,7 @@ ghost use Rattle.cadence_send.specs.Sent.{SendsTexts, SendsWords, TakesFirst, te
 ghost use Rattle.cadence_send.specs.Streams.{Accounts, AccountsFirst, fates_in, given_history};
 ghost use Rattle.cadence_send.specs.Summed.{IsAllSent, HoldsSummary, TakesSummed, packer_below};
 
-use crate::board::{LossSummary, Losses};
+use crate::board::{LossReport, Losses};
 use crate::engine::{Sending, TextCounts};
 use crate::error::RunError;
 use crate::lasting::LastingWriter;
@@ -118,8 +118,8 @@ fn report_losses<E: Write>(status: u8, losses: Losses, lost_sums: u64, errors: &
     if losses.packets == 0 {
         return status;
     }
-    let summary = LossSummary { losses, lost_sums };
-    let _ = writeln!(errors, "statsd_send: {summary}");
+    let report = LossReport { losses, lost_sums };
+    let _ = writeln!(errors, "statsd_send: {report}");
     if status == 3 { 3 } else { 1 }
 }
 

@@ -13,6 +13,8 @@ pub enum Setting {
     Tag,
     /// The container.
     Container,
+    /// Which tags of the container a Datadog agent adds.
+    Cardinality,
     /// The time in seconds since 1970.
     Time,
     /// The sampling rate that each line says.
@@ -41,11 +43,12 @@ pub enum Setting {
 
 impl Setting {
     /// All settings.
-    pub const ALL: [Setting; 16] = [
+    pub const ALL: [Setting; 17] = [
         Setting::To,
         Setting::Prefix,
         Setting::Tag,
         Setting::Container,
+        Setting::Cardinality,
         Setting::Time,
         Setting::Rate,
         Setting::Sample,
@@ -67,6 +70,7 @@ impl Setting {
             Setting::Prefix => "prefix",
             Setting::Tag => "tag",
             Setting::Container => "container",
+            Setting::Cardinality => "cardinality",
             Setting::Time => "time",
             Setting::Rate => "rate",
             Setting::Sample => "sample",
@@ -91,6 +95,7 @@ impl Setting {
             }
             Setting::Tag => "K:V or V, as in --tag env:live",
             Setting::Container => "an id, as in --container 9f2c",
+            Setting::Cardinality => "none, low, orchestrator or high, as in --cardinality low",
             Setting::Time => "seconds since 1970, as in --time 1700000000",
             Setting::Rate => "a number above 0, as in --rate 0.1",
             Setting::Sample => {
@@ -117,7 +122,7 @@ impl Setting {
     // Returns whether the option can be used with words that ask for this.
     pub(crate) fn is_for(self, subject: Subject) -> bool {
         match self {
-            Setting::Rate | Setting::Sample => subject == Subject::Metric,
+            Setting::Cardinality | Setting::Rate | Setting::Sample => subject == Subject::Metric,
             Setting::Host => subject != Subject::Metric,
             Setting::AggregationKey | Setting::Priority | Setting::Source | Setting::Alert => {
                 subject == Subject::Event

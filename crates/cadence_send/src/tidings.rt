@@ -39,11 +39,11 @@ impl Tidings {
 
     // Writes the report. An error of `errors` is ignored.
     fn tell<E: Write>(&mut self, board: &LossBoard, now: u64, errors: &mut E) {
-        let summary = board.summary();
+        let report = board.report();
         let _ = if board.is_failing() {
-            writeln!(errors, "statsd_send: so far {summary}")
+            writeln!(errors, "statsd_send: so far {report}")
         } else {
-            writeln!(errors, "statsd_send: sending works again: so far {summary}")
+            writeln!(errors, "statsd_send: sending works again: so far {report}")
         };
         self.told = board.lost_packets();
         self.was_failing = board.is_failing();

@@ -5,17 +5,19 @@ use Rattle.std.specs.List.{list_all}
 use Rattle.cadence_errors.specs.Errors.{IsDescribed, out_of_memory}
 use Rattle.cadence_errors.specs.declared.ErrorKind.TheVariants.{InvalidInput}
 use Rattle.cadence_errors.specs.declared.MetricError.{MetricError}
-use Rattle.cadence_text.specs.Metric.{Tag}
+use Rattle.cadence_text.specs.declared.line.enrichment.Cardinality.{Cardinality}
+use Rattle.cadence_text.specs.Metric.{Enrichment, Tag, no_enrichment}
 use Rattle.cadence_text.specs.Cleaned.{cleaned_tag, cleaned_text, container_as, tag_as, text_as}
-use Rattle.cadence_text.specs.FreeTexts.{is_free_text, is_free_if_any, is_clear_tag}
+use Rattle.cadence_text.specs.FreeTexts.{is_field_if_any, is_free_text, is_free_if_any, is_clear_tag}
 
--- the prefix as each line begins with it, the default tags in their order, the default container, whether the settings
--- are strict, and whether they clean texts: strict settings refuse each text that has a separator, and settings that clean
+-- the prefix as each line begins with it, the default tags in their order, the default container, the external data and
+-- the default cardinality, whether the settings are strict, and whether they clean texts: strict settings refuse each text that has a separator, and settings that clean
 -- texts put an underscore in its place
 pub record Settings : Type 0 where
   pub prefix : List ℕ
   pub tags : List Tag
   pub container : Option (List ℕ)
+  pub enrichment : Enrichment
   pub strict : Bool
   pub cleaned : Bool
 
@@ -37,7 +39,14 @@ client_prefix (c ∷ cs) = without_dots (c ∷ cs) ++ codes "."
 
 -- settings with this prefix, without defaults, which take all texts as they are
 abbrev pub settings_of : List ℕ → Settings
-settings_of prefix = record { prefix = client_prefix prefix; tags = []; container = None; strict = false; cleaned = false }
+settings_of prefix = record {
+  prefix = client_prefix prefix;
+  tags = [];
+  container = None;
+  enrichment = no_enrichment;
+  strict = false;
+  cleaned = false;
+}
 
 -- the settings with one more default tag, at the end, which is cleaned if the settings clean texts
 abbrev pub with_default_tag : Settings → Tag → Settings
@@ -46,6 +55,14 @@ with_default_tag s tag = record s { tags = s.tags ++ tag_as s.cleaned tag ∷ []
 -- the settings with this default container, which is cleaned if the settings clean texts
 abbrev pub with_default_container : Settings → List ℕ → Settings
 with_default_container s container = record s { container = Some (text_as s.cleaned container) }
+
+-- the settings with these external data
+abbrev pub with_external : Settings → List ℕ → Settings
+with_external s external = record s { enrichment = record s.enrichment { external = Some external } }
+
+-- the settings with this default cardinality
+abbrev pub with_default_cardinality : Settings → Cardinality → Settings
+with_default_cardinality s cardinality = record s { enrichment = record s.enrichment { cardinality = Some cardinality } }
 
 -- the settings as strict ones
 abbrev pub with_strict_texts : Settings → Settings
@@ -57,14 +74,16 @@ with_cleaned_texts s = record {
   prefix = cleaned_text false s.prefix;
   tags = map cleaned_tag s.tags;
   container = container_as true s.container;
+  enrichment = s.enrichment;
   strict = false;
   cleaned = true;
 }
 
--- whether the settings are clear: neither the prefix nor the default container has a separator, and each default tag is
--- clear
+-- whether the settings are clear: neither the prefix nor the default container has a separator, each default tag is
+-- clear, and the external data can be the text of a field
 abbrev pub is_clear_settings : Settings → Bool
-is_clear_settings s = is_free_text s.prefix && (list_all is_clear_tag s.tags && is_free_if_any s.container)
+is_clear_settings s =
+    is_free_text s.prefix && (list_all is_clear_tag s.tags && (is_free_if_any s.container && is_field_if_any s.enrichment.external))
 
 -- whether no separator comes from a call into its line: strict settings refuse it, and others may clean the text
 abbrev pub clears_texts : Settings → Bool

@@ -1,7 +1,8 @@
-//! The settings of a client: the prefix, the default tags and the default container that it adds to each call, and the
-//! lines and drafts of calls with them. `record` makes records of calls in place of lines, `strict` has the tests of strict
+//! The settings of a client: the prefix, the default tags, the default container and the enrichment that it adds to each
+//! call, and the lines and drafts of calls with them. `enriching` sets the enrichment, `record` makes records of calls in place of lines, `strict` has the tests of strict
 //! settings, `cleaning` has settings that clean texts, and `text` makes the drafts of calls whose value is a text.
 mod cleaning;
+mod enriching;
 mod record;
 mod strict;
 mod text;
@@ -25,7 +26,9 @@ ghost use Rattle.cadence_settings.specs.CallData.{LineFails};
 use super::call::{Call, choose_all};
 use cadence_errors::{MetricError, MetricResult};
 use cadence_text::laws::cleaned_texts_are_clear;
-use cadence_text::line::{DraftLine, Head, MetricType, OwnedTag, Tag, TagsText, cleaned, lend_tag};
+use cadence_text::line::{
+    Cardinality, DraftLine, Head, MetricType, OwnedTag, Tag, TagsText, cleaned, lend_tag,
+};
 use cadence_value::value::MetricValue;
 pub use cleaning::{KeyText, key_text};
 use std::alloc::{AllocError, Allocator, Global};
@@ -62,7 +65,7 @@ pub fn formatted_prefix<A: Allocator>(alloc: A, prefix: &str) -> Result<String<A
     Ok(text)
 }
 
-/// What a client adds to each call: its prefix, its default tags and its default container. Settings can be strict: then
+/// What a client adds to each call: its prefix, its default tags, its default container and its enrichment. Settings can be strict: then
 /// they refuse each text with a colon, a comma, a bar or a newline, so that no text can change another metric. The text
 /// of a tag with a key may have colons, because the first colon of a tag ends its key. Or they can clean texts: then each
 /// such separator is sent as an underscore.
@@ -75,6 +78,8 @@ pub struct ClientSettings<A: Allocator = Global> {
     // The tags as a line has them, so that a call copies one text.
     text: TagsText<A>,
     container: Option<String<A>>,
+    external: Option<String<A>>,
+    cardinality: Option<Cardinality>,
     strict: bool,
     cleaned: bool,
 }
@@ -94,7 +99,7 @@ impl<A: Allocator> Model for ClientSettings<A> {
 impl<A: Allocator + Clone> ClientSettings<A> {
     ghost use Rattle.cadence_errors.specs.Errors.{Makes};
 
-    /// Returns settings with this prefix, without default tags and without a default container. They are not strict.
+    /// Returns settings with this prefix, and without defaults. They are not strict.
     ///
     /// An empty prefix adds nothing to a name. Any other prefix loses its trailing dots, and then one dot is added. The
     /// Rust crate does so too.
@@ -109,6 +114,8 @@ impl<A: Allocator + Clone> ClientSettings<A> {
             text: TagsText::new(alloc.clone()?),
             tags: Vec::new(alloc),
             container: None,
+            external: None,
+            cardinality: None,
             strict: false,
             cleaned: false,
         })
@@ -150,7 +157,7 @@ impl<A: Allocator + Clone> ClientSettings<A> {
         cleaned_texts_are_clear();
         let tag = self.kept_tag(key, text)?;
         self.tags.reserve(1)?;
-        self.text.add(lend_tag(&tag))?;
+        self.text.add(lend_tag(&tag), false)?;
         self.tags.push_reserved(tag);
         Ok(())
     }
@@ -273,13 +280,10 @@ impl<A: Allocator + Clone> ClientSettings<A> {
             kind,
         };
         let alloc = self.tags.allocator().clone()?;
-        DraftLine::new(
-            alloc,
-            &head,
-            self.text.as_str(),
-            self.default_container(),
-            room,
-        )
+        let tags = self.text.as_str();
+        let mut draft = DraftLine::new(alloc, &head, tags, self.default_container(), room)?;
+        draft.set_enrichment(self.enrichment());
+        Ok(draft)
     }
 
     /// Returns what `draft` returns, but writes it into a buffer of the caller's, whose text is lost. It takes memory
@@ -309,7 +313,14 @@ impl<A: Allocator + Clone> ClientSettings<A> {
             kind,
         };
         let tags = self.text.as_str();
-        let draft = DraftLine::in_buffer(buffer, &head, tags, self.default_container(), OWN_BYTES)?;
+        let mut draft = DraftLine::in_buffer(
+            buffer,
+            &head,
+            tags,
+            self.default_container(),
+            OWN_BYTES,
+        )?;
+        draft.set_enrichment(self.enrichment());
         Ok(draft)
     }
 
@@ -334,11 +345,8 @@ impl<A: Allocator + Clone> ClientSettings<A> {
         if !self.allows_text(key) {
             return Err(DraftError::Unusable(Separator));
         }
-        let room = match &self.container {
-            Some(id) => id.len().saturating_add(3),
-            None => 0,
-        };
         let key = self.key_text(key)?;
+        let room = self.last_bytes();
         Ok(
             self.draft_with(key.as_str(), kind, value, room)?
                 .into_text()?,

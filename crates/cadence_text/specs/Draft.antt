@@ -2,8 +2,8 @@
 use Rattle.std.specs.Prelude.{ℕ, Bool, true, false, Option, List, [], ◌∷◌, ◌++◌, codes}
 use Rattle.cadence_text.specs.declared.line.MetricType.{MetricType}
 use Rattle.cadence_value.specs.Number.{Number, numbers_text}
-use Rattle.cadence_text.specs.Line.{kind_text, rate_field, tag_text, tags_field, container_field, time_field}
-use Rattle.cadence_text.specs.Metric.{Metric, Tag}
+use Rattle.cadence_text.specs.Line.{kind_text, rate_field, tag_text, tags_field, container_field, enrichment_fields, time_field}
+use Rattle.cadence_text.specs.Metric.{Enrichment, Metric, Tag}
 
 -- the text of the head, the text of the tags' field, and the other options, which are not text yet
 pub record Draft : Type 0 where
@@ -11,6 +11,7 @@ pub record Draft : Type 0 where
   pub tags : List ℕ
   pub rate : Option Number
   pub container : Option (List ℕ)
+  pub enrichment : Enrichment
   pub time : Option ℕ
 
 -- the head, with which each line begins: the name, the text of the value and the kind
@@ -28,6 +29,7 @@ draft_with value m = record {
   tags = tags_field m.tags;
   rate = m.rate;
   container = m.container;
+  enrichment = m.enrichment;
   time = m.time;
 }
 
@@ -37,7 +39,9 @@ draft_of m = draft_with (numbers_text m.numbers) m
 
 -- the line of a draft, in which the rate comes between the head and the tags
 abbrev pub draft_line : Draft → List ℕ
-draft_line d = d.head ++ (rate_field d.rate ++ (d.tags ++ (container_field d.container ++ time_field d.time)))
+draft_line d =
+    d.head ++ (rate_field d.rate ++ (d.tags
+    ++ (container_field d.container ++ (enrichment_fields d.enrichment ++ time_field d.time))))
 
 -- whether the text of the tags' field has any tag
 abbrev pub has_text : List ℕ → Bool

@@ -6,6 +6,8 @@ use Rattle.cadence_text.specs.declared.line.draft.head.Head.{Head}
 use Rattle.cadence_text.specs.declared.line.draft.DraftLine.TheInside.{Inside}
 use Rattle.cadence_text.specs.Cleaned.{container_as}
 use Rattle.cadence_text.specs.Draft.{Draft, head_text}
+use Rattle.cadence_text.specs.Metric.{no_enrichment}
+use Rattle.cadence_text.specs.Record.{enrichment_of}
 use Rattle.cadence_value.specs.Number.{IsDecimal}
 use Rattle.cadence_value.specs.Values.{numbers_of}
 
@@ -18,11 +20,18 @@ pub record IsRepresentableHead {Z : Type 0} (h : Head Z) : Type 0 where
   pub name : IsUtf8 (h.prefix.now ++ h.key.now)
   pub numbers : All IsDecimal (numbers_of h.value)
 
--- the draft of the text of a head, a text of tags and a container id, without a rate and a time
+-- the draft of the text of a head, a text of tags and a container id, without other options
 abbrev pub plain_draft : List ℕ → List ℕ → Option (List ℕ) → Draft
-plain_draft head tags container = record { head = head; tags = tags; rate = None; container = container; time = None }
+plain_draft head tags container = record {
+  head = head;
+  tags = tags;
+  rate = None;
+  container = container;
+  enrichment = no_enrichment;
+  time = None;
+}
 
--- the draft of a head, a text of tags and a container id, without a rate and a time
+-- the draft of a head, a text of tags and a container id, without other options
 abbrev pub draft_of_head : {Z : Type 0} → Head Z → List ℕ → Option (List ℕ) → Draft
 draft_of_head head tags container = plain_draft (text_of_head head) tags container
 
@@ -33,6 +42,7 @@ draft_of_inside d = record {
   tags = drop d.head d.line.bytes.items;
   rate = d.rate;
   container = container_as d.is_cleaned (option_copied d.container);
+  enrichment = enrichment_of d.enrichment;
   time = d.time;
 }
 

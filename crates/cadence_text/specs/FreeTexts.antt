@@ -25,6 +25,19 @@ is_no_tag_end byte = not (byte == 44) && (not (byte == 124) && not (byte == 10))
 unfoldable pub is_free_after_key : List ℕ → Bool
 is_free_after_key text = list_all is_no_tag_end text
 
+-- whether the byte ends no field: it is neither a bar nor a newline
+unfoldable pub ends_no_field : ℕ → Bool
+ends_no_field byte = not (byte == 124) && not (byte == 10)
+
+-- whether the text can be that of a field: it has no bar and no newline
+unfoldable pub is_field_text : List ℕ → Bool
+is_field_text text = list_all ends_no_field text
+
+-- whether the text can be that of a field, if there is a text
+abbrev pub is_field_if_any : Option (List ℕ) → Bool
+is_field_if_any None = true
+is_field_if_any (Some text) = is_field_text text
+
 -- whether the text can follow the key of a tag or, if there is no key, can be a tag
 abbrev pub is_clear_after : Option (List ℕ) → List ℕ → Bool
 is_clear_after None text = is_free_text text

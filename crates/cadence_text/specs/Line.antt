@@ -2,8 +2,10 @@
 use Rattle.std.specs.Prelude.{ℕ, Option, None, Some, List, [], ◌∷◌, ◌++◌, codes}
 use Rattle.cadence_text.specs.declared.line.MetricType.{MetricType}
 use Rattle.cadence_text.specs.declared.line.MetricType.TheVariants.{Counter, Timer, Gauge, Meter, Histogram, Set, Distribution}
+use Rattle.cadence_text.specs.declared.line.enrichment.Cardinality.{Cardinality}
+use Rattle.cadence_text.specs.declared.line.enrichment.Cardinality.TheVariants.{NoTags, Low, Orchestrator, High}
 use Rattle.cadence_value.specs.Number.{Number, decimal_text, number_text, joined_texts, numbers_text}
-use Rattle.cadence_text.specs.Metric.{Metric, Tag}
+use Rattle.cadence_text.specs.Metric.{Enrichment, Metric, Tag}
 
 -- the type text of a kind of metric
 abbrev pub kind_text : MetricType → List ℕ
@@ -39,6 +41,27 @@ abbrev pub container_field : Option (List ℕ) → List ℕ
 container_field None = []
 container_field (Some container) = codes "|c:" ++ container
 
+-- the text of a cardinality
+abbrev pub cardinality_text : Cardinality → List ℕ
+cardinality_text NoTags = codes "none"
+cardinality_text Low = codes "low"
+cardinality_text Orchestrator = codes "orchestrator"
+cardinality_text High = codes "high"
+
+-- the field of the external data, as `|e:cn-web,pu-4a`
+abbrev pub external_field : Option (List ℕ) → List ℕ
+external_field None = []
+external_field (Some external) = codes "|e:" ++ external
+
+-- the field of the cardinality, as `|card:low`
+abbrev pub cardinality_field : Option Cardinality → List ℕ
+cardinality_field None = []
+cardinality_field (Some cardinality) = codes "|card:" ++ cardinality_text cardinality
+
+-- the fields of the external data and the cardinality
+abbrev pub enrichment_fields : Enrichment → List ℕ
+enrichment_fields e = external_field e.external ++ cardinality_field e.cardinality
+
 -- the field of the timestamp, as `|T1656581400`
 abbrev pub time_field : Option ℕ → List ℕ
 time_field None = []
@@ -49,7 +72,8 @@ time_field (Some time) = codes "|T" ++ decimal_text time
 abbrev pub line_with : List ℕ → Metric → List ℕ
 line_with value m =
     m.name ++ (codes ":" ++ (value ++ (codes "|" ++ (kind_text m.kind
-    ++ (rate_field m.rate ++ (tags_field m.tags ++ (container_field m.container ++ time_field m.time)))))))
+    ++ (rate_field m.rate ++ (tags_field m.tags
+    ++ (container_field m.container ++ (enrichment_fields m.enrichment ++ time_field m.time))))))))
 
 -- the line of a metric, whose value is its numbers
 unfoldable pub line_of : Metric → List ℕ

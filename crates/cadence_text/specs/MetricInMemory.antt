@@ -36,4 +36,5 @@ pub record IsMetricInMemory (metric : Metric) : Type 0 where
   pub rate : IfSome metric.rate IsDecimal
   pub tags : AreTagsInMemory metric.tags
   pub container : IfSome metric.container IsTextInMemory
+  pub external : IfSome metric.enrichment.external IsTextInMemory
   pub time : IsTimestamp metric.time

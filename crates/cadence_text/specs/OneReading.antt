@@ -12,6 +12,10 @@ IsNoSeparator byte = (byte ≢ 58) × (byte ≢ 44) × (byte ≢ 124) × (byte �
 abbrev pub IsNoTagEnd : ℕ → Type 0
 IsNoTagEnd byte = (byte ≢ 44) × (byte ≢ 124) × (byte ≢ 10)
 
+-- The byte doesn't end a field: it is neither a bar nor a newline.
+abbrev pub EndsNoField : ℕ → Type 0
+EndsNoField byte = (byte ≢ 124) × (byte ≢ 10)
+
 -- The table has a flag for each byte, and the flag is zero if and only if the byte is no separator.
 unfoldable pub AreSeparatorFlags : List ℕ → Type 0
 AreSeparatorFlags flags = (byte : ℕ) → byte < 256 → (slice_index flags byte ≡ 0) ↔ IsNoSeparator byte
@@ -20,16 +24,21 @@ AreSeparatorFlags flags = (byte : ℕ) → byte < 256 → (slice_index flags byt
 abbrev pub IsFreeText : List ℕ → Type 0
 IsFreeText text = All IsNoSeparator text
 
+-- The text can be that of a field: it has no bar and no newline.
+abbrev pub IsFieldText : List ℕ → Type 0
+IsFieldText text = All EndsNoField text
+
 -- The key of the tag, if it has one, and its text have no separator.
 pub record IsFreeTag (tag : Tag) : Type 0 where
   pub key : IfSome tag.key IsFreeText
   pub text : IsFreeText tag.text
 
--- No text of the metric has a separator: neither the name nor the tags nor the container id.
+-- No text of the metric has a separator: neither the name nor the tags nor the container id nor the external data.
 pub record IsFreeOfSeparators (metric : Metric) : Type 0 where
   pub name : IsFreeText metric.name
   pub tags : All IsFreeTag metric.tags
   pub container : IfSome metric.container IsFreeText
+  pub external : IfSome metric.enrichment.external IsFreeText
 
 -- The text has no separator but colons. So it can follow the key of a tag, because the first colon of a tag ends the key.
 abbrev pub IsFreeAfterKey : List ℕ → Type 0
@@ -45,11 +54,13 @@ pub record IsClearTag (tag : Tag) : Type 0 where
   pub key : IfSome tag.key IsFreeText
   pub text : IsClearAfter tag.key tag.text
 
--- The metric is clear: its name and its container id have no separator, and each of its tags is clear.
+-- The metric is clear: its name and its container id have no separator, each of its tags is clear, and its external data
+-- can be the text of a field.
 pub record IsClear (metric : Metric) : Type 0 where
   pub name : IsFreeText metric.name
   pub tags : All IsClearTag metric.tags
   pub container : IfSome metric.container IsFreeText
+  pub external : IfSome metric.enrichment.external IsFieldText
 
 -- the lines of the metrics, each with a newline after it
 abbrev pub lines_of : List Metric → List ℕ

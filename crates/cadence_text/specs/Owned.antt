@@ -3,13 +3,13 @@ use Rattle.std.specs.Prelude.{Option, List, map, String, Vec}
 use Rattle.std.specs.Option.{option_map}
 use Rattle.std.specs.String.{string_bytes}
 use Rattle.cadence_text.specs.declared.line.record.owned.OwnedMetric.{OwnedMetric}
-use Rattle.cadence_text.specs.Metric.{Metric, Tag}
+use Rattle.cadence_text.specs.Metric.{Metric, Tag, no_enrichment}
 
 -- the tag that an `OwnedTag` represents
 abbrev pub tag_of_owned : {Z : Type 0} → Option (String Z) × String Z → Tag
 tag_of_owned tag = record { key = option_map string_bytes tag.0; text = string_bytes tag.1 }
 
--- the metric that an `OwnedMetric` represents
+-- the metric that an `OwnedMetric` represents, which has neither external data nor a cardinality
 abbrev pub metric_of_owned : {Z : Type 0} → OwnedMetric Z → Metric
 metric_of_owned m = record {
   name = string_bytes m.name;
@@ -18,6 +18,7 @@ metric_of_owned m = record {
   rate = m.rate;
   tags = map tag_of_owned m.tags.items;
   container = option_map string_bytes m.container;
+  enrichment = no_enrichment;
   time = m.time;
 }
 

@@ -17,4 +17,5 @@ pub record IsRepresentable (metric : Metric) : Type 0 where
   pub rate : IfSome metric.rate IsDecimal
   pub tags : All IsRepresentableTag metric.tags
   pub container : IfSome metric.container IsUtf8
+  pub external : IfSome metric.enrichment.external IsUtf8
   pub time : IfSome metric.time (λ time. time < 2 ^ 64)

@@ -6,6 +6,7 @@
 
 mod cleaning;
 mod draft;
+mod enrichment;
 mod line_buf;
 mod options;
 mod pieces;
@@ -17,8 +18,9 @@ mod window;
 use cadence_value::text::PieceWriter;
 pub use cleaning::cleaned;
 pub use draft::{DraftLine, Head, TagsText, TextValue, is_member};
+pub use enrichment::{Cardinality, Enrichment};
 pub use record::{OwnedMetric, Record};
-pub use separators::{first_separator, is_free, is_free_after_key};
+pub use separators::{first_separator, is_field_text, is_free, is_free_after_key};
 use std::fmt;
 pub use tag::{OwnedTag, Tag, lend_tag, lend_tags};
 

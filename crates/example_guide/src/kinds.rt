@@ -1,9 +1,11 @@
-//! Each kind of metric, and what a metric may have besides its value: tags, a container, a timestamp, a sampling rate.
-//! Samples of calls, events and service checks.
+//! Each kind of metric, and what a metric may have besides its value: tags, a container, a cardinality, a timestamp,
+//! a sampling rate. Samples of calls, events and service checks.
 
 use cadence::decimal::Decimal;
 use cadence::prelude::*;
-use cadence::{AlertType, Chance, MetricResult, MetricSink, ServiceStatus, StatsdClient};
+use cadence::{
+    AlertType, Cardinality, Chance, MetricResult, MetricSink, ServiceStatus, StatsdClient,
+};
 use std::alloc::Global;
 use std::time::Duration;
 
@@ -35,6 +37,7 @@ pub fn send_with_options<S: MetricSink>(client: &StatsdClient<Global, S>) -> Met
         .with_tag("page", "home")
         .with_tag_value("beta")
         .with_container_id("c0ffee")
+        .with_cardinality(Cardinality::Low)
         .with_timestamp(1_700_000_000)
         .with_sampling_rate(half)
         .try_send()?;

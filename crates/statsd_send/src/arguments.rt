@@ -6,7 +6,7 @@ use clap::{Arg, ArgAction, ArgMatches, Command, Error};
 use std::alloc::{AllocError, AllocFailed, Global};
 
 /// The version of this program.
-pub const VERSION: &str = "0.8.0";
+pub const VERSION: &str = "0.9.0";
 
 const USAGE: &str = "statsd_send [OPTIONS] KIND NAME VALUE [TAG ..]   sends one metric
        statsd_send [OPTIONS] event TITLE TEXT [TAG ..]   sends an event
@@ -67,6 +67,9 @@ const TAG: &str = "adds a tag, after those of DD_ENV, DD_SERVICE, DD_VERSION,
 DD_TAGS and DD_ENTITY_ID";
 
 const CONTAINER: &str = "adds the id of a container";
+
+const CARDINALITY: &str = "none, low, orchestrator or high: which tags of the container a
+Datadog agent adds";
 
 const TIME: &str = "adds a time, in seconds since 1970";
 
@@ -157,6 +160,7 @@ fn command<'a>(alloc: Global) -> Result<Command<'a>, AllocError> {
         .arg(option(alloc, "container", "ID", CONTAINER, LINES))?
         .arg(option(alloc, "time", "SECONDS", TIME, LINES))?
         .arg(option(alloc, "prefix", "NAME", PREFIX, METRICS))?
+        .arg(option(alloc, "cardinality", "WORD", CARDINALITY, METRICS))?
         .arg(option(alloc, "rate", "NUMBER", RATE, METRICS))?
         .arg(sample)?
         .arg(option(alloc, "capacity", "BYTES", CAPACITY, PACKETS))?

@@ -146,7 +146,7 @@ fn command<'a>(alloc: Global) -> Result<Command<'a>, AllocError> {
         .conflicts_with("sender")?;
     let names = number(alloc, "names", "N", NAMES).requires_arg("top")?;
     Command::new(alloc, "statsd_watch")
-        .version("0.8.0")
+        .version("0.9.0")
         .about(ABOUT)
         .override_usage(USAGE)
         .after_help(NOTES)

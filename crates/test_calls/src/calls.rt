@@ -8,7 +8,7 @@ use cadence::ext::{
 };
 use cadence::prelude::*;
 use cadence::types::{Metric, MetricResult};
-use cadence::{Chance, MetricBuilder};
+use cadence::{Cardinality, Chance, MetricBuilder};
 use std::alloc::Global;
 use std::sync::Wait;
 
@@ -49,6 +49,10 @@ fn choose<'a, T: Metric + From<String>, R: Wait + Clone + Drop>(
     match (name, text.split_once('=')) {
         ("tag", Some((key, text))) => builder.with_tag(key, text),
         ("container", _) => builder.with_container_id(text),
+        ("cardinality", _) => match Cardinality::from_text(text) {
+            Some(cardinality) => builder.with_cardinality(cardinality),
+            None => builder.with_tag_value(text),
+        },
         ("time", _) => match text.parse::<u64>() {
             Ok(time) => builder.with_timestamp(time),
             Err(_) => builder.with_tag_value(text),

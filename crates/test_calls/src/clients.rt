@@ -1,5 +1,6 @@
 //! Clients with the settings of rows.
 use crate::rows::unreadable;
+use cadence::Cardinality;
 use cadence::client::{ErrorHandler, StatsdClient, StatsdClientBuilder};
 use cadence::sinks::{MetricSink, SpyMetricSink};
 use cadence::types::{MetricError, MetricResult};
@@ -26,11 +27,17 @@ pub type Client<R> = StatsdClient<Global, SpyMetricSink<R>, NotingHandler<R>>;
 
 type Builder<R> = StatsdClientBuilder<Global, SpyMetricSink<R>, NotingHandler<R>>;
 
-// Adds a setting: `tag K=V`, `tag V`, `container ID`, `strict texts` or `cleaned texts`.
+// Adds a setting: `tag K=V`, `tag V`, `container ID`, `external TEXT`, `cardinality WORD`, `strict texts` or `cleaned
+// texts`.
 fn choose<R: Wait + Clone + Drop>(builder: Builder<R>, name: &str, text: &str) -> Builder<R> {
     match (name, text.split_once('=')) {
         ("tag", Some((key, text))) => builder.with_tag(key, text),
         ("container", _) => builder.with_container_id(text),
+        ("external", _) => builder.with_external_data(text),
+        ("cardinality", _) => match Cardinality::from_text(text) {
+            Some(cardinality) => builder.with_cardinality(cardinality),
+            None => builder.with_tag_value(text),
+        },
         ("strict", _) => builder.with_strict_texts(),
         ("cleaned", _) => builder.with_cleaned_texts(),
         _ => builder.with_tag_value(text),

@@ -8,6 +8,8 @@
 //! - `data/sums`: lines that are added up, and what is sent of them. `sums` makes them.
 //! - `data/environment.rows`: variables of the environment. `environment` reads them; the tests of C, Rust and Python
 //!   read the same file. It also prints the message of each variable that can't be used.
+//! - `data/enrichments.rows`: the external data and the cardinality that variables say. `environment` reads them too, as
+//!   those tests do, and `enrichments` says what is compared.
 //! - `data/containers.rows`: the containers of processes. `containers` reads them, as those tests do.
 //! - `data/addresses.rows`: the addresses of a name, and the one that is sent to. `addresses` reads them, as those tests do.
 //!
@@ -39,6 +41,7 @@ mod callers;
 mod calls;
 mod clients;
 mod containers;
+mod enrichments;
 mod environment;
 mod makers;
 mod outcomes;
@@ -51,6 +54,7 @@ mod wake_ups;
 
 use cadence::queue::{AuditError, EndFault};
 use cadence::{DEFAULT_PORT, MetricResult, Runtime};
+use environment::Kind;
 use queues::QueueKind;
 use std::alloc::{Alloc, AllocError, Global};
 use std::fs::Files;
@@ -107,7 +111,9 @@ fn report_rows<R: Runtime + Alloc + Files + Net>(rt: &R, alloc: Global) -> Metri
     let mut text = outcomes::report(rt, alloc, &fs::read_to_string(rt, "calls")?)?;
     text.push_str(&sums::report(rt, alloc, &fs::read_to_string(rt, "sums")?)?)?;
     let variables = fs::read_to_string(rt, "environment.rows")?;
-    text.push_str(&environment::report(alloc, &variables)?)?;
+    text.push_str(&environment::report(alloc, Kind::Variables, &variables)?)?;
+    let enrichments = fs::read_to_string(rt, "enrichments.rows")?;
+    text.push_str(&environment::report(alloc, Kind::Enrichments, &enrichments)?)?;
     let containers = fs::read_to_string(rt, "containers.rows")?;
     text.push_str(&containers::report(alloc, &containers)?)?;
     let addresses = fs::read_to_string(rt, "addresses.rows")?;

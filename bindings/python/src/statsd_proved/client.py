@@ -16,7 +16,7 @@ from . import address, environment, flusher, process
 from ._core import Packer
 from .environment import UNIX
 from .errors import Status, StatusError
-from .metrics import Metrics, Tags
+from .metrics import Cardinality, Metrics, Tags
 from .pipeline import Pipeline
 from .telemetry import Telemetry
 
@@ -84,21 +84,28 @@ class StatsClient(Metrics):
     `packets_dropped`, `packets_refused` and `lines_refused` (`sent`, `dropped`, `refused` and `bad` of `counts`) that has
     grown since the last report, after that prefix and a dot, with the default tags and the default container. There is at
     most one report in `telemetry_min_flush_interval` seconds, and the packet of a report counts in the next one.
+
+    `external_data` is the value of the variable DD_EXTERNAL_ENV, by which a Datadog agent finds the container and the pod of
+    the process. `cardinality` is "none", "low", "orchestrator" or "high", and says which of their tags the agent adds to
+    each metric; the cardinality of a call replaces it. The constructor raises a ValueError for external data with a bar or
+    a newline, also if the client isn't strict.
     """
 
     def __init__(self, host: str = "localhost", port: int = 8125, prefix: str | None = None, maxudpsize: int = 512,
                  ipv6: bool = False, *, tags: Tags | None = None, container: str | None = None, packets: int = 64,
                  flush_every: float | None = 1.0, on_error: Callable[[Exception], object] | None = None,
                  raises: bool = False, strict: bool = False, clean: bool = False, aggregate: bool = False,
-                 telemetry: str | None = None, telemetry_min_flush_interval: float = 10.0) -> None:
+                 telemetry: str | None = None, telemetry_min_flush_interval: float = 10.0,
+                 external_data: str | None = None, cardinality: Cardinality | None = None) -> None:
         if strict and clean:
             raise ValueError("a client is strict or cleans texts, and not both")
         tags = list(tags.items()) if isinstance(tags, Mapping) else tags
-        self._settings = (prefix.rstrip(".") + "." if prefix else "", maxudpsize, packets, strict, clean, tags, container)
+        settings = (strict, clean, tags, container, external_data, cardinality)
+        self._settings = (prefix.rstrip(".") + "." if prefix else "", maxudpsize, packets, *settings)
         super().__init__(Packer(*self._settings, aggregate))
         self._telemetry = None
         if telemetry is not None:
-            self._telemetry = Telemetry(telemetry, telemetry_min_flush_interval, strict, clean, tags, container)
+            self._telemetry = Telemetry(telemetry, telemetry_min_flush_interval, *settings)
         self._adds_up = aggregate
         self._flush_every = flusher.period(flush_every)
         self._at_once = bool(flush_every == 0)
@@ -120,7 +127,8 @@ class StatsClient(Metrics):
                          container: str | None = None, packets: int = 64, flush_every: float | None = 1.0,
                          on_error: Callable[[Exception], object] | None = None, raises: bool = False, strict: bool = False,
                          clean: bool = False, aggregate: bool = False, telemetry: str | None = None,
-                         telemetry_min_flush_interval: float = 10.0, origin_detection: bool | None = None) -> Self:
+                         telemetry_min_flush_interval: float = 10.0, origin_detection: bool | None = None,
+                         external_data: str | None = None, cardinality: Cardinality | None = None) -> Self:
         """Makes a client that sends to the address and has the tags of the variables of the environment. An empty variable
         counts as not set, and a variable that another one overrides isn't read.
 
@@ -137,8 +145,10 @@ class StatsClient(Metrics):
         A packet has at most 1432 bytes over UDP, unless STATSD_MAXUDPSIZE says otherwise, and 8192 bytes over a Unix socket.
         `maxudpsize` wins over both. If STATSD_IPV6 says yes, only addresses of IPv6 are taken, as with `ipv6`, which wins.
 
-        If DD_ORIGIN_DETECTION_ENABLED says yes, the container is that of the process, by the file /proc/self/cgroup;
-        `container` and `origin_detection` win over it.
+        If DD_ORIGIN_DETECTION_ENABLED says yes, the container is that of the process, by the file /proc/self/cgroup, and the
+        external data are those of DD_EXTERNAL_ENV, without bars and control characters of ASCII; `origin_detection`,
+        `container` and `external_data` win over it. The cardinality is that of DD_CARDINALITY, or otherwise of
+        DATADOG_CARDINALITY; `cardinality` wins over both.
 
         The arguments are those of the constructor. With `host` or `port` no variable of an address is read, and without
         `prefix` it is that of STATSD_PREFIX. `tags` come after
@@ -153,11 +163,16 @@ class StatsClient(Metrics):
         tags = [*environment.tags(os.environb), *(own.items() if isinstance(own, Mapping) else own)]
         if container is None:
             container = environment.container(os.environb, origin_detection)
+        if external_data is None:
+            external_data = environment.external_data(os.environb, origin_detection)
+        if cardinality is None:
+            cardinality = environment.cardinality(os.environb)
         return cls(host="localhost" if host is None else host, port=8125 if port is None else port, prefix=prefix,
                    maxudpsize=1432 if maxudpsize is None else maxudpsize, ipv6=bool(ipv6), tags=tags, container=container,
                    packets=packets, flush_every=flush_every, on_error=on_error, raises=raises, strict=strict, clean=clean,
                    aggregate=aggregate, telemetry=telemetry,
-                   telemetry_min_flush_interval=telemetry_min_flush_interval)
+                   telemetry_min_flush_interval=telemetry_min_flush_interval, external_data=external_data,
+                   cardinality=cardinality)
 
     def __reduce__(self) -> NoReturn:
         raise TypeError("a StatsClient can't be copied or pickled: make another one")

@@ -4,9 +4,10 @@ from __future__ import annotations
 
 import os
 from collections.abc import Mapping
-from typing import Union
+from typing import Union, get_args
 
 from . import _core
+from .metrics import Cardinality
 
 Tag = Union[str, tuple[str, str]]
 Variables = Mapping[bytes, bytes]
@@ -18,8 +19,12 @@ NOWHERE = "nowhere://"
 # the names of the variables, in the order of cadence.h
 _NAMES = (b"DD_DOGSTATSD_URL", b"DD_DOGSTATSD_SOCKET", b"DD_AGENT_HOST", b"DD_DOGSTATSD_PORT", b"STATSD_HOST", b"STATSD_PORT",
           b"DD_ENV", b"DD_SERVICE", b"DD_VERSION", b"DD_TAGS", b"DD_ENTITY_ID", b"DD_DOGSTATSD_DISABLE", b"STATSD_ENABLED",
-          b"STATSD_MAXUDPSIZE", b"STATSD_PREFIX", b"DD_ORIGIN_DETECTION_ENABLED", b"STATSD_IPV6")
+          b"STATSD_MAXUDPSIZE", b"STATSD_PREFIX", b"DD_ORIGIN_DETECTION_ENABLED", b"STATSD_IPV6",
+          b"DD_EXTERNAL_ENV", b"DD_CARDINALITY", b"DATADOG_CARDINALITY")
 _ORIGIN = b"DD_ORIGIN_DETECTION_ENABLED"
+
+# the cardinalities, in the order of their numbers in cadence.h
+_CARDINALITIES: tuple[Cardinality | None, ...] = (None, *get_args(Cardinality))
 
 # the number of the control groups of the host
 _HOST = 4026531835
@@ -60,12 +65,27 @@ def tags(variables: Variables) -> list[Tag]:
 
 def container(variables: Variables, is_wanted: bool | None = None) -> str | None:
     """Returns the container of the process if a variable says that it is the default one, or `is_wanted` in its place."""
-    if is_wanted is not None:
-        variables = {**variables, _ORIGIN: b"1" if is_wanted else b"0"}
+    variables = _switched(variables, is_wanted)
     if not variables.get(_ORIGIN):
         return None
     groups = _groups()
     return _core.environment_container(groups, _inode(groups), *_values(variables))[0] or None
+
+
+def external_data(variables: Variables, is_wanted: bool | None = None) -> str | None:
+    """Returns the external data of the process if a variable says that they are the default ones, or `is_wanted` in its
+    place."""
+    return _core.environment_external(*_values(_switched(variables, is_wanted)))[0] or None
+
+
+def cardinality(variables: Variables) -> Cardinality | None:
+    """Returns the default cardinality."""
+    return _CARDINALITIES[_core.environment_cardinality(*_values(variables))]
+
+
+def _switched(variables: Variables, is_wanted: bool | None) -> Variables:
+    """Returns the variables, with `is_wanted` in place of the one for the container and the external data of the process."""
+    return variables if is_wanted is None else {**variables, _ORIGIN: b"1" if is_wanted else b"0"}
 
 
 def _groups() -> bytes:

@@ -31,6 +31,8 @@ str is printed as `str` does, but bytes and objects that have others in them are
 
 Priority = Literal["low", "normal"]
 AlertType = Literal["error", "warning", "info", "success"]
+Cardinality = Literal["none", "low", "orchestrator", "high"]
+"""Which tags of its container a Datadog agent adds to a metric."""
 
 
 def _millis(time: Any) -> Any:
@@ -47,9 +49,9 @@ class Metrics(Calls, abc.ABC):
     """Calls that make metrics, events and service checks.
 
     Each call of a metric takes a `rate`. If the rate is below 1, only this share of the calls is kept, chosen at random,
-    and the line has the rate, by which the server scales. Each call also takes `tags`, a `container` and a `timestamp`
-    (seconds since 1970, rounded down), which servers with the Datadog fields read. A value is an int, a float or a
-    Decimal. An empty list of values is refused, because no server reads a metric without a value.
+    and the line has the rate, by which the server scales. Each call also takes `tags`, a `container`, a `timestamp`
+    (seconds since 1970, rounded down) and a `cardinality` ("none", "low", "orchestrator" or "high"), which servers with the
+    Datadog fields read. A value is an int, a float or a Decimal. An empty list of values is refused, because no server reads a metric without a value.
     """
 
     OK, WARNING, CRITICAL, UNKNOWN = range(4)  # the states of a service
@@ -79,10 +81,10 @@ class Metrics(Calls, abc.ABC):
         self._keep_by(self._packer.check, name, status, timestamp, hostname, message, tags, container)
 
     def timer(self, stat: str, rate: float = 1, *, tags: Tags | None = None, container: str | None = None,
-              timestamp: float | None = None) -> Timer:
+              timestamp: float | None = None, cardinality: Cardinality | None = None) -> Timer:
         """Returns a timer. It is a context manager, a decorator of functions and of coroutine functions, and an object
         with `start`, `stop` and `send`."""
-        return Timer(self, stat, rate, tags=tags, container=container, timestamp=timestamp)
+        return Timer(self, stat, rate, tags=tags, container=container, timestamp=timestamp, cardinality=cardinality)
 
     def _keep_by(self, keep: Callable[..., bool], *arguments: Any) -> None:
         try:

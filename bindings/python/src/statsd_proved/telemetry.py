@@ -13,13 +13,13 @@ _CAPACITY = 65507
 
 
 class Telemetry:
-    """Makes a counter for each count that has grown since the last report, with a prefix of its own and the default tags and
-    the default container of the client. There is at most one report in `every` seconds."""
+    """Makes a counter for each count that has grown since the last report, with a prefix of its own and the other settings of
+    the client. There is at most one report in `every` seconds."""
 
-    def __init__(self, prefix: str, every: float, strict: bool, clean: bool, tags: Any, container: str | None) -> None:
+    def __init__(self, prefix: str, every: float, *settings: Any) -> None:
         if not isinstance(every, (int, float)) or not every >= 0:
             raise ValueError(f"telemetry_min_flush_interval is {every!r}: it has to be a number of seconds that is 0 or more")
-        self._packer = Packer(prefix.rstrip(".") + "." if prefix else "", _CAPACITY, 2, strict, clean, tags, container)
+        self._packer = Packer(prefix.rstrip(".") + "." if prefix else "", _CAPACITY, 2, *settings)
         self._every = every
         self._told: dict[str, int] = {}
         self._at = time.monotonic()

@@ -9,7 +9,7 @@ from collections.abc import Callable
 from typing import TYPE_CHECKING, Any, TypeVar, cast
 
 if TYPE_CHECKING:
-    from .metrics import Metrics, Tags
+    from .metrics import Cardinality, Metrics, Tags
 
 Function = TypeVar("Function", bound=Callable[..., Any])
 
@@ -24,12 +24,13 @@ class Timer:
     """Measures a time. After `stop`, the field `ms` is the time in milliseconds."""
 
     def __init__(self, client: Metrics, stat: str, rate: float = 1, *, tags: Tags | None = None,
-                 container: str | None = None, timestamp: float | None = None) -> None:
+                 container: str | None = None, timestamp: float | None = None,
+                 cardinality: Cardinality | None = None) -> None:
         self.client = client
         self.stat = stat
         self.rate = rate
         self.ms: float | None = None
-        self._fields = (tags, container, timestamp)
+        self._fields = (tags, container, timestamp, cardinality)
         self._sent = False
         self._start_time: float | None = None
 
@@ -50,8 +51,9 @@ class Timer:
         return cast(Function, timed)
 
     def _another(self) -> Timer:
-        tags, container, timestamp = self._fields
-        return Timer(self.client, self.stat, self.rate, tags=tags, container=container, timestamp=timestamp)
+        tags, container, timestamp, cardinality = self._fields
+        return Timer(self.client, self.stat, self.rate, tags=tags, container=container, timestamp=timestamp,
+                     cardinality=cardinality)
 
     def __enter__(self) -> Timer:
         return self.start()
@@ -82,5 +84,6 @@ class Timer:
         if self._sent:
             raise RuntimeError("the time was sent already")
         self._sent = True
-        tags, container, timestamp = self._fields
-        self.client.timing(self.stat, self.ms, self.rate, tags=tags, container=container, timestamp=timestamp)
+        tags, container, timestamp, cardinality = self._fields
+        self.client.timing(self.stat, self.ms, self.rate, tags=tags, container=container, timestamp=timestamp,
+                           cardinality=cardinality)

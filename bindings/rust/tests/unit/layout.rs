@@ -21,9 +21,10 @@ fn layouts_are_those_of_the_header() {
         layout!("sums" Handle: at open),
         layout!("tag" Tag<'_>: key.at key.len text.at text.len keyed),
         layout!("settings" Settings<'_>: prefix.at prefix.len tags.at tags.len container.at container.len contained strict
-            cleaned),
+            cleaned external.at external.len cardinality),
         layout!("decimal" Decimal: mantissa places),
-        layout!("options" Options<'_>: tags.at tags.len container.at container.len rate time contained rated timed known),
+        layout!("options" Options<'_>: tags.at tags.len container.at container.len rate time contained rated timed known
+            cardinality),
         layout!("event" EventData<'_>: title.at title.len text.at text.len host.at host.len key.at key.len source.at source.len
             container.at container.len tags.at tags.len time priority alert timed),
         layout!("check" CheckData<'_>: name.at name.len host.at host.len message.at message.len container.at container.len

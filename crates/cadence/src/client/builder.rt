@@ -1,7 +1,7 @@
 //! A metric that is being built, and its options. `sending` has the calls that send it.
 ghost use Rattle.std.specs.Option.{option_copied};
 ghost use Rattle.std.specs.Prelude.{◌≡◌, false, true, IfErr, IsErr};
-ghost use Rattle.cadence_settings.specs.Call.{tagged, contained, timed, rated};
+ghost use Rattle.cadence_settings.specs.Call.{tagged, contained, timed, rated, enriched};
 ghost use Rattle.cadence_settings.specs.DraftErrors.{IsDraftFault};
 ghost use Rattle.cadence_text.specs.Metric.{keyed, unkeyed};
 ghost use Rattle.cadence.specs.Sending.{AppliesOption, StandsForMore, choice_for};
@@ -12,7 +12,7 @@ use crate::laws::choosing_stands_for_more;
 use crate::types::Metric;
 use cadence_errors::{MetricError, MetricResult};
 use cadence_settings::{DraftError, Separator, tag_is_clear, text_is_free};
-use cadence_text::line::{DraftLine, Tag};
+use cadence_text::line::{Cardinality, DraftLine, Tag};
 use cadence_value::decimal::Decimal;
 use std::marker::PhantomData;
 
@@ -179,6 +179,22 @@ impl<'m, 'c, T: Metric + From<String<C::Memory>>, C: MetricBackend> MetricBuilde
     {
         choosing_stands_for_more();
         self.set_time(timestamp);
+        self
+    }
+
+    /// Sets the cardinality, in place of the default one or an earlier one: which tags of the container a Datadog agent
+    /// adds.
+    pub fn with_cardinality(mut self, cardinality: Cardinality) -> Self
+        ensures pending { AppliesOption (C.settings (backend_of self.entry)) false
+            (pending_of self.entry) (enriched cardinality) (pending_of result) }
+        ensures call { StandsForMore (pending_of self.entry) (enriched cardinality)
+            (pending_of result) }
+        ensures client { backend_of result ≡ backend_of self.entry }
+    {
+        choosing_stands_for_more();
+        if let Ok(draft) = &mut self.draft {
+            draft.set_cardinality(cardinality);
+        }
         self
     }
 

@@ -3,13 +3,15 @@ ghost use Rattle.std.specs.Prelude.{◌≡◌, Err, IfErr, IfOk, true};
 ghost use Rattle.std.specs.Option.{option_copied};
 ghost use Rattle.cadence_errors.specs.Errors.{Makes, MayOnlyRunOutOfMemory};
 ghost use Rattle.cadence_text.specs.Metric.{keyed, unkeyed};
-ghost use Rattle.cadence_settings.specs.Settings.{allows_text, is_clear_settings, with_cleaned_texts, with_default_container, with_strict_texts};
+ghost use Rattle.cadence_settings.specs.Settings.{allows_text, is_clear_settings, with_cleaned_texts, with_default_cardinality, with_default_container, with_external, with_strict_texts};
+ghost use Rattle.cadence_text.specs.FreeTexts.{is_field_text};
 
 use crate::client::handler::{BoxedErrorHandler, BoxedHandler, ErrorHandler, NopErrorHandler};
 use crate::client::statsd_client::{BoxedSink, StatsdClient};
 use cadence_errors::MetricResult;
 use cadence_flow::MetricSink;
 use cadence_settings::ClientSettings;
+use cadence_text::line::Cardinality;
 use std::alloc::{Allocator, Global};
 
 /// Makes a client. After an error the later calls change nothing, and `build` returns the error.
@@ -98,6 +100,33 @@ impl<A: Allocator + Clone, S: MetricSink, H: ErrorHandler> StatsdClientBuilder<A
             if let Err(error) = settings.set_container(container_id) {
                 self.settings = Err(error);
             }
+        }
+        self
+    }
+
+    /// Sets the external data of each line, in place of earlier ones: the value of the variable `DD_EXTERNAL_ENV`, by which
+    /// a Datadog agent finds the container and the pod of the process. If the text has a bar or a newline, `build` returns
+    /// an error of kind `InvalidInput`, also if the client isn't strict.
+    pub fn with_external_data(mut self, external: &str) -> Self
+        ensures { AddsDefault (λ _. is_field_text external.now)
+            (λ s. with_external s external.now) self result }
+    {
+        if let Ok(settings) = &mut self.settings {
+            if let Err(error) = settings.set_external(external) {
+                self.settings = Err(error);
+            }
+        }
+        self
+    }
+
+    /// Sets the cardinality of each call that doesn't set its own, in place of an earlier default: which tags of the
+    /// container a Datadog agent adds.
+    pub fn with_cardinality(mut self, cardinality: Cardinality) -> Self
+        ensures { AddsDefault (λ _. true)
+            (λ s. with_default_cardinality s cardinality) self result }
+    {
+        if let Ok(settings) = &mut self.settings {
+            settings.set_cardinality(cardinality);
         }
         self
     }

@@ -26,7 +26,7 @@ module _ {P A : Type 0} (kind : P → WriterKind) (history : P → PacketHistory
       → IsSummary ((sent_by old.sink ++ held old.lines.aggregator) ++ said ∷ []) (sent_by new.sink ++ held new.lines.aggregator)
       → n ≡ length line → SumsCall kind history old (Line line (Ok n)) new
   added line n said leads says sum whole =
-      record { whole = (whole, tt); asked = leads.asked; asks = leads.asks; packs = leads.packs; said = said ∷ []; says = (says, tt); summary = sum }
+      record { whole = (whole, tt); asked = leads.asked; asks = leads.asks; packs = leads.packs; said = said ∷ []; says = (says, tt); summary = sum; flushed = λ never. cc }
 
   -- A line was not added.
   pub not_added : (line : List ℕ) (e : SinkError) → LeadsSink kind history old.sink (Err e) new.sink
@@ -39,6 +39,7 @@ module _ {P A : Type 0} (kind : P → WriterKind) (history : P → PacketHistory
     said = [];
     says = tt;
     summary = subst (λ xs. IsSummary xs (sent_by new.sink ++ held new.lines.aggregator)) (sym (append-nil (sent_by old.sink ++ held old.lines.aggregator))) sum;
+    flushed = λ never. cc;
   }
 
   -- A flush failed before the packer was flushed.
@@ -52,13 +53,14 @@ module _ {P A : Type 0} (kind : P → WriterKind) (history : P → PacketHistory
     said = [];
     says = tt;
     summary = same_of _ _ (append-nil (sent_by old.sink ++ held old.lines.aggregator) ∙ sym same);
+    flushed = λ never. cc;
   }
 
   module _ (s : PackerSink P A) (result : Result (Unit {0}) SinkError) (only : new.sink ≡ record s { packing = new.sink.packing }) where
     -- The packer was flushed, or its flush failed.
     pub flushed_both : LeadsSink kind history old.sink (Ok tt) s → sent_by s ++ held new.lines.aggregator ≡ sent_by old.sink ++ held old.lines.aggregator
-        → PacksCounted kind history s.packing (Flush result) new.sink.packing → SumsCall kind history old (Flush result) new
-    flushed_both leads same step =
+        → held new.lines.aggregator ≡ [] → PacksCounted kind history s.packing (Flush result) new.sink.packing → SumsCall kind history old (Flush result) new
+    flushed_both leads same none step =
         let flush : SinkPacks kind history s new.sink (Flush result ∷ []) = record {
           lines = ap (λ (x : PackerSink P A). lines_by x) only ∙ sym (append-nil (lines_by s));
           sends = (view_of new.sink.packing, ⊎_elim (λ packs. packs) (λ full. absurd full.0) step.packs, refl);
@@ -72,4 +74,5 @@ module _ {P A : Type 0} (kind : P → WriterKind) (history : P → PacketHistory
           says = tt;
           summary = same_of _ _ (append-nil (sent_by old.sink ++ held old.lines.aggregator) ∙ sym same
               ∙ ap (λ xs. xs ++ held new.lines.aggregator) (sym (ap (λ (x : PackerSink P A). sent_by x) only)));
+          flushed = λ done. none;
         }

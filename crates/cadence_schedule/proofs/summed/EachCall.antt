@@ -1,5 +1,6 @@
 -- What all calls of the sums before a packer did: to what they hold, and to the packer.
-use Rattle.std.proofs.Common.{◌≡◌, ℕ, List, [], ◌∷◌, ◌++◌, Option, Ok, Err, true, length, refl, sym, ap, ◌∙◌, subst, arith, inl}
+use Rattle.std.proofs.Common.{◌≡◌, ◌-◌, ℕ, Bool, List, [], ◌∷◌, ◌++◌, Option, Ok, Err, Some, slice_get, true, length, refl, sym, ap, ◌∙◌, subst, arith, inl}
+use Rattle.std.proofs.Math.Numerals.{sub-one}
 use Rattle.std.specs.List.{AllByRecursion, AllZip}
 use Rattle.std.proofs.lemmas.List.Concat.{flat_map-append}
 use Rattle.std.proofs.lemmas.List.{append-nil, append_assoc, map-append}
@@ -21,7 +22,7 @@ use Rattle.cadence_schedule.specs.Moves.{QueueState, Moves, Goes, given_in}
 use Rattle.cadence_schedule.specs.RunHistory.{Turn}
 use Rattle.cadence_stage.specs.Call.{Flush, Line}
 use Rattle.cadence_stage.specs.Call as stage
-use Rattle.cadence_stage.specs.Past.{taken_by, taken_in}
+use Rattle.cadence_stage.specs.Past.{ends_by_flush, is_flush, taken_by, taken_in}
 use Rattle.cadence_aggregate.specs.Led.{AllLead}
 use Rattle.cadence_schedule.specs.Calls.{texts_in}
 use Rattle.cadence_schedule.specs.SumsCalls.{SumsCall}
@@ -50,6 +51,10 @@ each_joined (x ∷ xs) ys all (now, later, are, asks, more) =
 only_one : (call : stage.Call) (all : List stage.Call) → AskEach (call ∷ []) all → AsksCall call all
 only_one call all (asked, rest, are, asks, none) = subst (AsksCall call) (sym (are ∙ ap (λ xs. asked ++ xs) none ∙ append-nil asked)) asks
 
+ends_joined : (before : Bool) (xs ys : List stage.Call) → ends_by_flush before (xs ++ ys) ≡ ends_by_flush (ends_by_flush before xs) ys
+ends_joined before [] ys = refl
+ends_joined before (x ∷ xs) ys = ends_joined (is_flush x) xs ys
+
 module _ {A : Type 0} (line_of : Call A → Option (List ℕ)) (queue : Option ℕ) (policy : QueuePolicy) where
   asks_turn : (old : QueueState) (t : Turn A) (new : QueueState) (all : List stage.Call) → Moves line_of queue policy old t new
       → AskEach (given_in t old.in_hand) all → Asks t all
@@ -57,6 +62,19 @@ module _ {A : Type 0} (line_of : Call A → Option (List ℕ)) (queue : Option �
       only_one (Line line result) all (subst (λ hand. AskEach (given_in {A = A} (step.Hand, reply.Handed result) hand) all) some each)
   asks_turn old (step.Flush, reply.Flushed result) new all same each = only_one (Flush result) all each
   asks_turn old t new all move each = each
+
+  -- If the last turn is a flush that succeeded, so is the last call.
+  pub ends_in_flush : (before : Bool) (turns : List (Turn A)) (old new : QueueState) (given : List stage.Call) → Goes line_of queue policy old turns given new
+      → slice_get turns (length turns - 1) ≡ Some (step.Flush, reply.Flushed (Ok tt)) → ends_by_flush before given ≡ true
+  ends_in_flush before [] old new given goes last = cc
+  ends_in_flush before (t ∷ []) old new given (mid, rest, are, first, (none, same)) last =
+      let is : t ≡ (step.Flush, reply.Flushed (Ok tt)) = cc in
+      subst (λ gs. ends_by_flush before gs ≡ true) (sym (are ∙ ap (λ (x : Turn A). given_in x old.in_hand ++ rest) is))
+      (subst (λ gs. ends_by_flush true gs ≡ true) (sym none) refl)
+  ends_in_flush before (t ∷ u ∷ ts) old new given (mid, rest, are, first, later) last =
+      let now = ends_by_flush before (given_in t old.in_hand) in
+      subst (λ gs. ends_by_flush before gs ≡ true) (sym are)
+      (ends_joined before (given_in t old.in_hand) rest ∙ ends_in_flush now (u ∷ ts) mid new rest later (rw sub-one (rw sub-one at last)))
 
   -- The steps asked what the calls asked that they made.
   pub ask_all : (turns : List (Turn A)) (old new : QueueState) (given all : List stage.Call) → Goes line_of queue policy old turns given new
@@ -95,6 +113,12 @@ module _ {P A : Type 0} (kind : P → WriterKind) (history : P → PacketHistory
         past = subst (λ ls. SumsUp ls (sent_by s'.sink) (held s'.lines.aggregator))
             (append_assoc accepted lines (texts_in (taken_in calls)) ∙ ap (λ ls. accepted ++ ls) (sym texts)) r.past;
       }
+
+  -- If the last call is a flush that succeeded, nothing is held.
+  pub flushed_in : (before : Bool) (calls : List stage.Call) (s s' : PackedSums P A) → (before ≡ true → held s.lines.aggregator ≡ [])
+      → AllLead (SumsCall kind history) s calls s' → ends_by_flush before calls ≡ true → held s'.lines.aggregator ≡ []
+  flushed_in before [] s s' none same ends = subst (λ (x : PackedSums P A). held x.lines.aggregator ≡ []) (sym same) (none ends)
+  flushed_in before (call ∷ calls) s s' none (mid, one, rest) ends = flushed_in (is_flush call) calls mid s' one.flushed rest ends
 
   -- Sums take a whole line or refuse it, and a refusal may have any error.
   pub any_answer : (answering : WriterKind) (format : Format) → ((e : SinkError) → answering.may_give e ≡ true) → (calls : List stage.Call)

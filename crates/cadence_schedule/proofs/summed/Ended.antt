@@ -1,5 +1,5 @@
 -- What a whole run with sums before its packer shows.
-use Rattle.std.proofs.Common.{◌≡◌, ℕ, ◌^◌, ◌<◌, ◌≤◌, List, [], ◌++◌, Option, Vec, length, map, refl, sym, ap, ◌∙◌, subst, arith}
+use Rattle.std.proofs.Common.{◌≡◌, ℕ, ◌^◌, ◌<◌, ◌≤◌, List, [], ◌++◌, Option, Vec, false, length, map, refl, sym, ap, ◌∙◌, subst, arith}
 use Rattle.std.specs.List.{AllByRecursion, zip}
 use Rattle.cadence_stage.specs.OwnLog.{items_of}
 use Rattle.cadence_aggregate.specs.Aggregate.{held}
@@ -37,7 +37,7 @@ use Rattle.cadence_schedule.proofs.headline.RunOfTurns.{length-zip}
 use Rattle.cadence_schedule.proofs.headline.QueuedRun.{after, all_filled, has_replies}
 use Rattle.cadence_schedule.proofs.history.KeptLines.{length-kept}
 use Rattle.cadence_schedule.proofs.packets.Refusing.{MayAnswer}
-use Rattle.cadence_schedule.proofs.summed.EachCall.{Summed, any_answer, ask_all, summed}
+use Rattle.cadence_schedule.proofs.summed.EachCall.{Summed, any_answer, ask_all, ends_in_flush, flushed_in, summed}
 use Rattle.cadence_schedule.proofs.summed.Erring.{few_errors}
 use Rattle.cadence_schedule.proofs.summed.Filled.{kept_filled, no_more_kept}
 
@@ -104,4 +104,6 @@ module _ {W A : Type 0} (kind_of : W → WriterKind) (history_of : W → PacketH
               (omega (arith, no_more_kept (kept lines turns) (taken_in calls.all) (held summing.lines.aggregator) summary, length-kept lines turns, short))
               (omega (arith, few_errors turns calls.all asked, short)) few run replies least bound bytes packets;
           summary = summary;
+          flushed = λ last. flushed_in counts shows false r.given first summing (λ never. none_held) r.led
+              (ends_in_flush lines queue policy false turns at_start (queue_state run) r.given r.goes last);
         }

@@ -19,11 +19,11 @@ use Rattle.cadence_text.specs.Line.{line_of, tags_field}
 use Rattle.cadence_errors.specs.declared.MetricError.{MetricError}
 use Rattle.cadence_settings.specs.CallData.{LineFails}
 use Rattle.cadence_text.specs.Representable.{IsRepresentable, IsRepresentableTag}
-use Rattle.cadence_text.specs.Metric.{Metric, Tag}
+use Rattle.cadence_text.specs.Metric.{Enrichment, Metric, Tag}
 use Rattle.cadence_value.specs.Number.{IsDecimal, Number, numbers_text}
 use Rattle.cadence_value.specs.Values.{Converts, numbers_of}
 use Rattle.cadence_settings.specs.Settings.{Settings}
-use Rattle.cadence_settings.specs.Call.{Choice, tagged, contained, timed, rated, IsDraftOf, MetricCall, choice_as, plain_call, with_choice, chosen}
+use Rattle.cadence_settings.specs.Call.{Choice, tagged, contained, timed, rated, enriched, IsDraftOf, MetricCall, choice_as, plain_call, with_choice, chosen}
 use Rattle.cadence_settings.specs.Call.{metric_of_call, MakesMetric}
 use Rattle.cadence_settings.specs.CallData.{choice_of, kind_of_value, metric_of_data, numbers_of_data, sent_choice}
 use Rattle.cadence_settings.specs.declared.call.Call.{Call}
@@ -36,6 +36,7 @@ chosen-metric_of_call s c (tagged t) = simp (filter_map-append, fold-append, app
 chosen-metric_of_call s c (contained t) = simp (filter_map-append, fold-append, append-nil)
 chosen-metric_of_call s c (timed t) = simp (filter_map-append, fold-append, append-nil)
 chosen-metric_of_call s c (rated t) = simp (filter_map-append, fold-append, append-nil)
+chosen-metric_of_call s c (enriched t) = simp (filter_map-append, fold-append, append-nil)
 
 -- applying a list of options to the metric of a call gives the metric of the call with these options added
 pub fold-chosen : (s : Settings) (c : MetricCall) (os : List Choice)
@@ -65,25 +66,29 @@ makes_metric-fold s kind key os (Some ns) v m n same made all =
     ∙ fold-chosen s (plain_call kind key ns) os)
 makes_metric-fold s kind key os None v m n same made all = absurd same
 
+-- the draft of a head, tags, a container and an enrichment
+abbrev pub enriched_draft : List ℕ → List ℕ → Option (List ℕ) → Enrichment → Draft
+enriched_draft head tags container enrichment = record (plain_draft head tags container) { enrichment = enrichment }
+
 -- the draft of a call without options that has this text as its value
 draft_of_plain : (s : Settings) (kind : MetricType) (key value : List ℕ) (ns : List Number)
-    → plain_draft (head_with (s.prefix ++ key) value kind) (tags_field s.tags) s.container
+    → enriched_draft (head_with (s.prefix ++ key) value kind) (tags_field s.tags) s.container s.enrichment
     ≡ draft_with value (metric_of_call s (plain_call kind key ns))
 unfolding metric_of_call
 draft_of_plain s kind key value ns =
-    ap (λ (ts : List Tag). plain_draft (head_with (s.prefix ++ key) value kind) (tags_field ts) s.container) (sym (append-nil s.tags))
+    ap (λ (ts : List Tag). enriched_draft (head_with (s.prefix ++ key) value kind) (tags_field ts) s.container s.enrichment) (sym (append-nil s.tags))
 
 -- the same, from texts that are those of the settings
 pub draft_of_value : (s : Settings) (kind : MetricType) (prefix key value tags : List ℕ) (container : Option (List ℕ)) (ns : List Number)
     → prefix ≡ s.prefix → tags ≡ tags_field s.tags → container ≡ s.container
-    → plain_draft (head_with (prefix ++ key) value kind) tags container ≡ draft_with value (metric_of_call s (plain_call kind key ns))
+    → enriched_draft (head_with (prefix ++ key) value kind) tags container s.enrichment ≡ draft_with value (metric_of_call s (plain_call kind key ns))
 draft_of_value s kind prefix key value tags container ns p t c =
-    (λ i. plain_draft (head_with (p i ++ key) value kind) (t i) (c i)) ∙ draft_of_plain s kind key value ns
+    (λ i. enriched_draft (head_with (p i ++ key) value kind) (t i) (c i) s.enrichment) ∙ draft_of_plain s kind key value ns
 
 -- the draft of a call without options, from texts that are those of the settings
 pub draft_of_call : (s : Settings) (kind : MetricType) (prefix key tags : List ℕ) (container : Option (List ℕ)) (ns : List Number)
     → prefix ≡ s.prefix → tags ≡ tags_field s.tags → container ≡ s.container
-    → plain_draft (head_text (prefix ++ key) ns kind) tags container ≡ draft_of (metric_of_call s (plain_call kind key ns))
+    → enriched_draft (head_text (prefix ++ key) ns kind) tags container s.enrichment ≡ draft_of (metric_of_call s (plain_call kind key ns))
 unfolding metric_of_call
 draft_of_call s kind prefix key tags container ns p t c = draft_of_value s kind prefix key (numbers_text ns) tags container ns p t c
 
@@ -133,7 +138,15 @@ pub contained_draft : (m : Metric) (old new : Draft) (text : List ℕ) → new �
     → IsDraftOf m old → IsDraftOf (chosen m (contained text)) new
 contained_draft m old new text e utf8 (is, representable) = (
   e ∙ ap (λ (d : Draft). record d { container = Some text }) is,
-  record { name = representable.name; numbers = representable.numbers; rate = representable.rate; tags = representable.tags; container = utf8; time = representable.time },
+  record {
+    name = representable.name;
+    numbers = representable.numbers;
+    rate = representable.rate;
+    tags = representable.tags;
+    container = utf8;
+    external = representable.external;
+    time = representable.time;
+  },
 )
 
 -- a draft after it gets a time
@@ -141,7 +154,15 @@ pub timed_draft : (m : Metric) (old new : Draft) (time : ℕ) → new ≡ record
     → IsDraftOf (chosen m (timed time)) new
 timed_draft m old new time e fits (is, representable) = (
   e ∙ ap (λ (d : Draft). record d { time = Some time }) is,
-  record { name = representable.name; numbers = representable.numbers; rate = representable.rate; tags = representable.tags; container = representable.container; time = fits },
+  record {
+    name = representable.name;
+    numbers = representable.numbers;
+    rate = representable.rate;
+    tags = representable.tags;
+    container = representable.container;
+    external = representable.external;
+    time = fits;
+  },
 )
 
 -- a draft after it gets a sampling rate
@@ -149,7 +170,15 @@ pub rated_draft : (m : Metric) (old new : Draft) (rate : Number) → new ≡ rec
     → IsDraftOf (chosen m (rated rate)) new
 rated_draft m old new rate e whole (is, representable) = (
   e ∙ ap (λ (d : Draft). record d { rate = Some rate }) is,
-  record { name = representable.name; numbers = representable.numbers; rate = whole; tags = representable.tags; container = representable.container; time = representable.time },
+  record {
+    name = representable.name;
+    numbers = representable.numbers;
+    rate = whole;
+    tags = representable.tags;
+    container = representable.container;
+    external = representable.external;
+    time = representable.time;
+  },
 )
 
 -- the default tags are in UTF-8, because each `String` is
@@ -176,6 +205,7 @@ said_plain s kind key ns name numbers = record {
   rate = tt;
   tags = subst (λ (ts : List Tag). All IsRepresentableTag ts) (sym (append-nil (map tag_of_owned s.tags.items))) (said_owned s.tags.items);
   container = said_key s.container;
+  external = said_key s.external;
   time = tt;
 }
 
@@ -188,6 +218,7 @@ pub metric_of_plain : (s : Settings) (kind : MetricType) (key : List ℕ) (ns : 
       rate = None;
       tags = s.tags;
       container = s.container;
+      enrichment = s.enrichment;
       time = None;
     } ≡ metric_of_call s (plain_call kind key ns)
 unfolding metric_of_call
@@ -199,5 +230,6 @@ metric_of_plain s kind key ns =
       rate = None;
       tags = ts;
       container = s.container;
+      enrichment = s.enrichment;
       time = None;
     }) (sym (append-nil s.tags))

@@ -10,14 +10,36 @@ use Rattle.cadence_text.specs.Cleaned.{CleanedTextsAreClear, cleaned_tag, cleane
 use Rattle.cadence_text.specs.Laws.{ClearTextsPass}
 use Rattle.cadence_text.specs.Metric.{Metric, Tag}
 use Rattle.cadence_text.specs.OneReading.{IsClear, IsClearTag, IsFreeText, IsNoSeparator}
-use Rattle.cadence_settings.specs.Call.{Choice, tagged, contained, timed, rated, MetricCall, metric_of_call, chosen_tag, chosen_container, last_or}
+use Rattle.cadence_settings.specs.Call.{Choice, tagged, contained, timed, rated, enriched, MetricCall, metric_of_call, chosen_tag, chosen_container, last_or}
 use Rattle.cadence_settings.specs.Call.{allows_call, call_for, choice_as, is_clear_call, is_clear_choice, metric_for}
 use Rattle.cadence_value.specs.Number.{Number}
 use Rattle.cadence_settings.specs.declared.call.Call.{Call}
 use Rattle.cadence_settings.specs.CallData.{call_of, metric_of_data, numbers_of_value}
 use Rattle.cadence_settings.specs.Laws.{CleanedCallsAreClear, StrictCallsAreClear}
-use Rattle.cadence_text.specs.FreeTexts.{is_free_text, is_free_if_any, is_clear_tag}
-use Rattle.cadence_settings.specs.Settings.{Settings, clears_texts, is_clear_settings, allows_tag, allows_text, with_cleaned_texts}
+use Rattle.cadence_text.specs.FreeTexts.{is_field_if_any, is_field_text, is_free_text, is_free_if_any, is_clear_tag}
+use Rattle.cadence_settings.specs.Settings.{Settings, clears_texts, is_clear_settings, allows_tag, allows_text, with_cleaned_texts, with_external}
+
+-- what clear settings are made of
+record AreClearParts (s : Settings) : Type 0 where
+  pub prefix : is_free_text s.prefix ≡ true
+  pub tags : list_all is_clear_tag s.tags ≡ true
+  pub container : is_free_if_any s.container ≡ true
+  pub external : is_field_if_any s.enrichment.external ≡ true
+
+clear_parts : (s : Settings) → is_clear_settings s ≡ true → AreClearParts s
+clear_parts s h =
+    let last = is_free_if_any s.container && is_field_if_any s.enrichment.external in
+    let (prefix, defaults) = and_parts (is_free_text s.prefix) (list_all is_clear_tag s.tags && last) h in
+    let (tags, ends) = and_parts (list_all is_clear_tag s.tags) last defaults in
+    let (container, external) = and_parts (is_free_if_any s.container) (is_field_if_any s.enrichment.external) ends in
+    record { prefix = prefix; tags = tags; container = container; external = external }
+
+clear_from : (s : Settings) → AreClearParts s → is_clear_settings s ≡ true
+clear_from s h =
+    let last = is_free_if_any s.container && is_field_if_any s.enrichment.external in
+    and_from (is_free_text s.prefix) (list_all is_clear_tag s.tags && last) h.prefix
+    (and_from (list_all is_clear_tag s.tags) last h.tags
+    (and_from (is_free_if_any s.container) (is_field_if_any s.enrichment.external) h.container h.external))
 
 clear_chosen_tags : ClearTextsPass → (os : List Choice) → list_all is_clear_choice os ≡ true → All IsClearTag (filter_map chosen_tag os)
 clear_chosen_tags law [] h = All-nil IsClearTag
@@ -27,6 +49,7 @@ clear_chosen_tags law (tagged t ∷ os) h =
 clear_chosen_tags law (contained c ∷ os) h = clear_chosen_tags law os (and_parts (is_free_text c) (list_all is_clear_choice os) h).1
 clear_chosen_tags law (timed n ∷ os) h = clear_chosen_tags law os h
 clear_chosen_tags law (rated r ∷ os) h = clear_chosen_tags law os h
+clear_chosen_tags law (enriched k ∷ os) h = clear_chosen_tags law os h
 
 free_container : ClearTextsPass → (default : Option (List ℕ)) (os : List Choice) → IfSome default IsFreeText → list_all is_clear_choice os ≡ true
     → IfSome (last_or chosen_container default os) IsFreeText
@@ -37,20 +60,21 @@ free_container law default (contained c ∷ os) free h =
     let (first, rest) = and_parts (is_free_text c) (list_all is_clear_choice os) h in free_container law (Some c) os ((law.texts c).0 first) rest
 free_container law default (timed n ∷ os) free h = free_container law default os free h
 free_container law default (rated r ∷ os) free h = free_container law default os free h
+free_container law default (enriched k ∷ os) free h = free_container law default os free h
 
 -- the metric of a call is clear, if the call and the settings are
 clear_metric : ClearTextsPass → (s : Settings) (c : MetricCall) → is_clear_settings s ≡ true → is_clear_call c ≡ true
     → IsClear (metric_of_call s c)
 unfolding metric_of_call
 clear_metric law s c settings call =
-    let (prefix, defaults) = and_parts (is_free_text s.prefix) (list_all is_clear_tag s.tags && is_free_if_any s.container) settings in
-    let (tags, container) = and_parts (list_all is_clear_tag s.tags) (is_free_if_any s.container) defaults in
+    let clear = clear_parts s settings in
     let (choices, key) = and_parts (list_all is_clear_choice c.choices) (is_free_text c.key) call in
     record {
-      name = All-append IsNoSeparator s.prefix c.key ((law.texts s.prefix).0 prefix) ((law.texts c.key).0 key);
-      tags = All-append IsClearTag s.tags (filter_map chosen_tag c.choices) ((law.tags s.tags).0 tags)
+      name = All-append IsNoSeparator s.prefix c.key ((law.texts s.prefix).0 clear.prefix) ((law.texts c.key).0 key);
+      tags = All-append IsClearTag s.tags (filter_map chosen_tag c.choices) ((law.tags s.tags).0 clear.tags)
           (clear_chosen_tags law c.choices choices);
-      container = free_container law s.container c.choices ((law.any s.container).0 container) choices;
+      container = free_container law s.container c.choices ((law.any s.container).0 clear.container) choices;
+      external = (law.field s.enrichment.external).0 clear.external;
     }
 
 -- cleaned texts are clear, and texts that are clear stay so
@@ -68,6 +92,7 @@ module _ (law : CleanedTextsAreClear) where
   clear_choice_as cleaned (contained c) h = clear_text_as cleaned c h
   clear_choice_as cleaned (timed n) h = h
   clear_choice_as cleaned (rated r) h = h
+  clear_choice_as cleaned (enriched k) h = h
 
   clear_choices_as : (cleaned : Bool) (os : List Choice) → list_all is_clear_choice os ≡ true
       → list_all is_clear_choice (map (choice_as cleaned) os) ≡ true
@@ -92,6 +117,7 @@ module _ (law : CleanedTextsAreClear) where
   cleaned_choice (contained c) = law.text c
   cleaned_choice (timed n) = refl
   cleaned_choice (rated r) = refl
+  cleaned_choice (enriched k) = refl
 
   cleaned_choices : (os : List Choice) → list_all is_clear_choice (map (choice_as true) os) ≡ true
   cleaned_choices [] = refl
@@ -139,32 +165,40 @@ module _ (law : CleanedTextsAreClear) where
   cleaned_container_free (Some c) = law.text c
 
   -- settings with cleaned texts are clear
-  pub cleaned_settings_clear : (s : Settings) → IsTrue (is_clear_settings (with_cleaned_texts s))
-  cleaned_settings_clear s =
-      and_from (is_free_text (cleaned_text false s.prefix)) (list_all is_clear_tag (map cleaned_tag s.tags) && is_free_if_any (container_as true s.container))
-      (law.text s.prefix)
-      (and_from (list_all is_clear_tag (map cleaned_tag s.tags)) (is_free_if_any (container_as true s.container)) (cleaned_tags_clear s.tags)
-      (cleaned_container_free s.container))
+  pub cleaned_settings_clear : (s : Settings) → IsTrue (is_field_if_any s.enrichment.external) → IsTrue (is_clear_settings (with_cleaned_texts s))
+  cleaned_settings_clear s external = clear_from (with_cleaned_texts s) (record {
+    prefix = law.text s.prefix;
+    tags = cleaned_tags_clear s.tags;
+    container = cleaned_container_free s.container;
+    external = external;
+  })
 
 -- clear settings are clear with another container that is free of separators
 pub clear_with_container : (s : Settings) (c : List ℕ) → IsTrue (is_clear_settings s) → is_free_text c ≡ true
     → IsTrue (is_clear_settings (record s { container = Some c }))
 clear_with_container s c free one =
-    let (prefix, defaults) = and_parts (is_free_text s.prefix) (list_all is_clear_tag s.tags && is_free_if_any s.container) free in
-    and_from (is_free_text s.prefix) (list_all is_clear_tag s.tags && is_free_text c) prefix
-    (and_from (list_all is_clear_tag s.tags) (is_free_text c)
-    (and_parts (list_all is_clear_tag s.tags) (is_free_if_any s.container) defaults).0 one)
+    let was = clear_parts s free in
+    clear_from (record s { container = Some c }) (record { prefix = was.prefix; tags = was.tags; container = one; external = was.external })
+
+-- clear settings are clear with other external data that can be the text of a field
+pub clear_with_external : (s : Settings) (e : List ℕ) → IsTrue (is_clear_settings s) → is_field_text e ≡ true
+    → IsTrue (is_clear_settings (with_external s e))
+clear_with_external s e free one =
+    let was = clear_parts s free in
+    clear_from (with_external s e) (record { prefix = was.prefix; tags = was.tags; container = was.container; external = one })
 
 -- clear settings are clear with one more clear default tag
 pub clear_with_tag : (s : Settings) (t : Tag) → IsTrue (is_clear_settings s) → is_clear_tag t ≡ true
     → IsTrue (is_clear_settings (record s { tags = s.tags ++ t ∷ [] }))
 clear_with_tag s t free one =
-    let (prefix, defaults) = and_parts (is_free_text s.prefix) (list_all is_clear_tag s.tags && is_free_if_any s.container) free in
-    let (tags, container) = and_parts (list_all is_clear_tag s.tags) (is_free_if_any s.container) defaults in
-    and_from (is_free_text s.prefix) (list_all is_clear_tag (s.tags ++ t ∷ []) && is_free_if_any s.container) prefix
-    (and_from (list_all is_clear_tag (s.tags ++ t ∷ [])) (is_free_if_any s.container)
-    (list_all-append is_clear_tag s.tags (t ∷ []) ∙ and_from (list_all is_clear_tag s.tags) (is_clear_tag t && true) tags
-    (and_from (is_clear_tag t) true one refl)) container)
+    let was = clear_parts s free in
+    clear_from (record s { tags = s.tags ++ t ∷ [] }) (record {
+      prefix = was.prefix;
+      tags = list_all-append is_clear_tag s.tags (t ∷ [])
+          ∙ and_from (list_all is_clear_tag s.tags) (is_clear_tag t && true) was.tags (and_from (is_clear_tag t) true one refl);
+      container = was.container;
+      external = was.external;
+    })
 
 -- the metric of each call that is kept as data is clear, if the settings are strict and clear
 by_allowed : (P : Metric → Type 0) (allowed : Bool) (numbers : Option (List Number)) (f : List Number → Metric)

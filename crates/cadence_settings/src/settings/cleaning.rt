@@ -95,7 +95,7 @@ fn cleaned_tags<A: Allocator + Clone>(
     let mut text = TagsText::new(text_alloc);
     for tag in tags {
         let cleaned = cleaned_tag(made.allocator(), tag)?;
-        text.add(lend_tag(&cleaned))?;
+        text.add(lend_tag(&cleaned), false)?;
         made.push(cleaned)?;
     }
     Ok((made, text))

@@ -63,7 +63,9 @@ impl<A: Allocator + Clone> ClientSettings<A> {
     {
         let tags = self.default_tags()?;
         let container = self.default_container();
-        Ok(Record::with_defaults(&self.prefix, key, kind, value, tags, container))
+        let mut record = Record::with_defaults(&self.prefix, key, kind, value, tags, container);
+        record.set_enrichment(self.enrichment());
+        Ok(record)
     }
 
     /// Returns the record of a call that is kept as data, to which the prefix and the defaults of these settings and

@@ -7,6 +7,7 @@ ghost use Rattle.cadence_text.specs.FreeTexts.{is_free_if_any, is_clear_tag, is_
 ghost use Rattle.cadence_text.specs.Record.{tag_of};
 
 use super::ClientSettings;
+use super::enriching::external_is_field;
 use crate::call::Call;
 use cadence_errors::{ErrorKind, InputError, MetricError, MetricResult, Reason};
 use cadence_text::line::{OwnedTag, Tag, is_free, is_free_after_key, lend_tag};
@@ -149,7 +150,7 @@ impl<A: Allocator + Clone> ClientSettings<A> {
         if !text_is_free(&self.prefix) || !own_tags_are_clear(&self.tags) {
             return false;
         }
-        any_is_free(self.default_container())
+        any_is_free(self.default_container()) && external_is_field(self.enrichment())
     }
 
     /// Returns the error of a call without options whose value could not be made because of `error`. That is `error`

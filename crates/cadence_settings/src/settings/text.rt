@@ -60,7 +60,7 @@ impl<A: Allocator + Clone> ClientSettings<A> {
         }
         let key = self.key_text(key)?;
         let (tags, container) = (self.text.as_str(), self.default_container());
-        let draft = DraftLine::of_text(
+        let mut draft = DraftLine::of_text(
             buffer,
             &self.prefix,
             key.as_str(),
@@ -69,6 +69,7 @@ impl<A: Allocator + Clone> ClientSettings<A> {
             container,
             OWN_BYTES,
         )?;
+        draft.set_enrichment(self.enrichment());
         Ok(draft)
     }
 }

@@ -7,8 +7,8 @@ use Rattle.std.proofs.lemmas.Bool.{and_from, and_parts, cases_lt, eq-eqb, eqb-fa
 use Rattle.std.proofs.lemmas.List.{get_or_default}
 use Rattle.std.proofs.lemmas.List.Elements.{All-cons, All-head, All-nil, All-tail}
 use Rattle.cadence_text.specs.Metric.{Tag}
-use Rattle.cadence_text.specs.OneReading.{IsClearAfter, IsClearTag, IsFreeAfterKey, IsFreeText, IsNoSeparator, IsNoTagEnd}
-use Rattle.cadence_text.specs.FreeTexts.{is_no_separator, is_free_text, is_free_if_any, is_no_tag_end, is_free_after_key, is_clear_after, is_clear_tag}
+use Rattle.cadence_text.specs.OneReading.{EndsNoField, IsClearAfter, IsClearTag, IsFieldText, IsFreeAfterKey, IsFreeText, IsNoSeparator, IsNoTagEnd}
+use Rattle.cadence_text.specs.FreeTexts.{ends_no_field, is_field_if_any, is_field_text, is_no_separator, is_free_text, is_free_if_any, is_no_tag_end, is_free_after_key, is_clear_after, is_clear_tag}
 
 -- two tests are the same if each is true whenever the other one is
 pub same_test : (a b : Bool) → (a ≡ true → b ≡ true) → (b ≡ true → a ≡ true) → a ≡ b
@@ -109,6 +109,37 @@ free_if_any (Some text) h = free_text text h
 pub free_if_any_from : (text : Option (List ℕ)) → IfSome text IsFreeText → is_free_if_any text ≡ true
 free_if_any_from None h = refl
 free_if_any_from (Some text) h = free_text_from text h
+
+ends_no_field-from : (b : ℕ) → EndsNoField b → ends_no_field b ≡ true
+unfolding ends_no_field
+ends_no_field-from b (bar, newline) = and_from (not (b == 124)) (not (b == 10)) (ap not (ne_eqb b 124 bar)) (ap not (ne_eqb b 10 newline))
+
+ends_no_field-is : (b : ℕ) → ends_no_field b ≡ true → EndsNoField b
+unfolding ends_no_field
+ends_no_field-is b h =
+    let (bar, newline) = and_parts (not (b == 124)) (not (b == 10)) h in
+    (eqb-false b 124 (not-true (b == 124) bar), eqb-false b 10 (not-true (b == 10) newline))
+
+field_text : (text : List ℕ) → is_field_text text ≡ true → IsFieldText text
+unfolding is_field_text
+field_text text h = each_passes ends_no_field EndsNoField ends_no_field-is text h
+
+field_text_from : (text : List ℕ) → IsFieldText text → is_field_text text ≡ true
+unfolding is_field_text
+field_text_from text h = all_pass ends_no_field EndsNoField ends_no_field-from text h
+
+-- a test of the text that is true if and only if the text can be that of a field
+pub tested_field : (r : Bool) (text : List ℕ) → (IsTrue r ↔ IsFieldText text) → r ≡ is_field_text text
+tested_field r text test =
+    same_test r (is_field_text text) (λ h. field_text_from text (test.0 h)) (λ h. test.1 (field_text text h))
+
+pub field_if_any : (text : Option (List ℕ)) → is_field_if_any text ≡ true → IfSome text IsFieldText
+field_if_any None h = tt
+field_if_any (Some text) h = field_text text h
+
+pub field_if_any_from : (text : Option (List ℕ)) → IfSome text IsFieldText → is_field_if_any text ≡ true
+field_if_any_from None h = refl
+field_if_any_from (Some text) h = field_text_from text h
 
 clear_after : (key : Option (List ℕ)) (text : List ℕ) → is_clear_after key text ≡ true → IsClearAfter key text
 clear_after None text h = free_text text h

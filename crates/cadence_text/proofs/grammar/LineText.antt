@@ -1,7 +1,7 @@
 -- The grammar of lines: different clear metrics have different lines, and so have lists of them.
 use Rattle.std.proofs.Common.{◌≡◌, ◌≢◌, ℕ, ◌<◌, List, [], ◌∷◌, ◌++◌, length, Option, Some, None, Bool, refl, sym, ap, ◌∙◌, ap₂, subst}
 use Rattle.std.proofs.Common.{arith, eqb, map, lit<, get_or, inl, inr}
-use Rattle.std.specs.Prelude.{All, IfSome}
+use Rattle.std.specs.Prelude.{All, IfSome, codes, ◌&&◌}
 use Rattle.std.specs.List.{AllByRecursion, join_with_byte, flat_map}
 use Rattle.std.proofs.lemmas.List.{append-nil, append_assoc, length-append}
 use Rattle.std.proofs.lemmas.List.Concat.{flat_map-append}
@@ -9,9 +9,12 @@ use Rattle.std.proofs.lemmas.List.Elements.{recursion_from_All, All-head, All-we
 use Rattle.cadence_text.specs.declared.line.MetricType.{MetricType}
 use Rattle.cadence_text.specs.declared.line.MetricType.TheVariants.{Counter, Timer, Gauge, Meter, Histogram, Set, Distribution}
 use Rattle.cadence_value.specs.Number.{Number, decimal_text, number_text, joined_texts, numbers_text}
-use Rattle.cadence_text.specs.Metric.{Metric, Tag}
+use Rattle.cadence_text.specs.declared.line.enrichment.Cardinality.{Cardinality}
+use Rattle.cadence_text.specs.declared.line.enrichment.Cardinality.TheVariants.{NoTags, Low, Orchestrator, High}
+use Rattle.cadence_text.specs.Metric.{Enrichment, Metric, Tag}
 use Rattle.cadence_text.specs.Line.{kind_text, rate_field, key_text, tag_text, tags_field, container_field, time_field, line_of}
-use Rattle.cadence_text.specs.OneReading.{IsNoSeparator, IsNoTagEnd, IsFreeText, IsFreeTag, IsFreeOfSeparators}
+use Rattle.cadence_text.specs.Line.{cardinality_field, cardinality_text, enrichment_fields, external_field}
+use Rattle.cadence_text.specs.OneReading.{EndsNoField, IsFieldText, IsNoSeparator, IsNoTagEnd, IsFreeText, IsFreeTag, IsFreeOfSeparators}
 use Rattle.cadence_text.specs.OneReading.{IsClearAfter, IsClearTag, IsClear, lines_of, IsPacketOf}
 use Rattle.cadence_value.proofs.lists.SplitTexts.{Lacks, lacks_no, cut_at, join_once, map_once, each_weaker, each_mapped, each_image, each_append}
 use Rattle.cadence_value.proofs.lists.SplitTexts.{each_joined, cut_once, Stops, Passes}
@@ -41,11 +44,26 @@ abbrev pub time_part : Option ℕ → List (List ℕ)
 time_part (Some time) = (84 ∷ decimal_text time) ∷ []
 time_part None = []
 
+abbrev pub external_part : Option (List ℕ) → List (List ℕ)
+external_part (Some external) = (101 ∷ 58 ∷ external) ∷ []
+external_part None = []
+
+abbrev pub cardinality_part : Option Cardinality → List (List ℕ)
+cardinality_part (Some cardinality) = (codes "card:" ++ cardinality_text cardinality) ∷ []
+cardinality_part None = []
+
+abbrev pub enrichment_parts : Enrichment → List (List ℕ)
+enrichment_parts e = external_part e.external ++ cardinality_part e.cardinality
+
 abbrev pub front_of : Metric → List ℕ
 front_of m = m.name ++ 58 ∷ join_with_byte 58 (map number_text m.numbers)
 
+-- the fields after that of the container
+abbrev pub end_of : Metric → List (List ℕ)
+end_of m = enrichment_parts m.enrichment ++ time_part m.time
+
 abbrev pub last_of : Metric → List (List ℕ)
-last_of m = rate_part m.rate ++ (tags_part m.tags ++ (container_part m.container ++ time_part m.time))
+last_of m = rate_part m.rate ++ (tags_part m.tags ++ (container_part m.container ++ end_of m))
 
 abbrev pub parts_of : Metric → List (List ℕ)
 parts_of m = front_of m ∷ kind_text m.kind ∷ last_of m
@@ -75,13 +93,28 @@ barred-time : (o : Option ℕ) → barred (time_part o) ≡ time_field o
 barred-time (Some t) = append-nil (124 ∷ 84 ∷ decimal_text t)
 barred-time None = refl
 
-pub barred-last : (m : Metric) → barred (last_of m) ≡ rate_field m.rate ++ (tags_field m.tags ++ (container_field m.container ++ time_field m.time))
+barred-external : (o : Option (List ℕ)) → barred (external_part o) ≡ external_field o
+barred-external (Some e) = append-nil (124 ∷ 101 ∷ 58 ∷ e)
+barred-external None = refl
+
+barred-cardinality : (o : Option Cardinality) → barred (cardinality_part o) ≡ cardinality_field o
+barred-cardinality (Some c) = append-nil (124 ∷ (codes "card:" ++ cardinality_text c))
+barred-cardinality None = refl
+
+barred-enrichment : (e : Enrichment) → barred (enrichment_parts e) ≡ enrichment_fields e
+barred-enrichment e =
+    flat_map-append (λ (part : List ℕ). 124 ∷ part) (external_part e.external) (cardinality_part e.cardinality)
+    ∙ ap₂ (λ s t. s ++ t) (barred-external e.external) (barred-cardinality e.cardinality)
+
+pub barred-last : (m : Metric) → barred (last_of m)
+    ≡ rate_field m.rate ++ (tags_field m.tags ++ (container_field m.container ++ (enrichment_fields m.enrichment ++ time_field m.time)))
 barred-last m =
     let bar = λ (part : List ℕ). 124 ∷ part in
-    flat_map-append bar (rate_part m.rate) (tags_part m.tags ++ (container_part m.container ++ time_part m.time))
-    ∙ ap₂ (λ s t. s ++ t) (barred-rate m.rate) (flat_map-append bar (tags_part m.tags) (container_part m.container ++ time_part m.time)
-    ∙ ap₂ (λ s t. s ++ t) (barred-tags m.tags) (flat_map-append bar (container_part m.container) (time_part m.time)
-    ∙ ap₂ (λ s t. s ++ t) (barred-container m.container) (barred-time m.time)))
+    flat_map-append bar (rate_part m.rate) (tags_part m.tags ++ (container_part m.container ++ end_of m))
+    ∙ ap₂ (λ s t. s ++ t) (barred-rate m.rate) (flat_map-append bar (tags_part m.tags) (container_part m.container ++ end_of m)
+    ∙ ap₂ (λ s t. s ++ t) (barred-tags m.tags) (flat_map-append bar (container_part m.container) (end_of m)
+    ∙ ap₂ (λ s t. s ++ t) (barred-container m.container) (flat_map-append bar (enrichment_parts m.enrichment) (time_part m.time)
+    ∙ ap₂ (λ s t. s ++ t) (barred-enrichment m.enrichment) (barred-time m.time))))
 
 -- A line is its fields joined by bars.
 pub line_of-joined : (m : Metric) → line_of m ≡ join_with_byte 124 (parts_of m)
@@ -123,8 +156,17 @@ free_after (Some key) text h = All-weaker IsNoSeparator IsNoTagEnd (λ b p. (p.1
 pub free_tag_clear : (tag : Tag) → IsFreeTag tag → IsClearTag tag
 free_tag_clear tag h = record { key = h.key; text = free_after tag.key tag.text h.text }
 
+free_field : (text : Option (List ℕ)) → IfSome text IsFreeText → IfSome text IsFieldText
+free_field None h = tt
+free_field (Some text) h = All-weaker IsNoSeparator EndsNoField (λ b p. (p.2, p.3)) text h
+
 pub free_clear : (m : Metric) → IsFreeOfSeparators m → IsClear m
-free_clear m h = record { name = h.name; tags = All-weaker IsFreeTag IsClearTag free_tag_clear m.tags h.tags; container = h.container }
+free_clear m h = record {
+  name = h.name;
+  tags = All-weaker IsFreeTag IsClearTag free_tag_clear m.tags h.tags;
+  container = h.container;
+  external = free_field m.enrichment.external h.external;
+}
 
 -- the text of a tag: `key:text`, or the text alone
 abbrev pub keyed_text : Option (List ℕ) → List ℕ → List ℕ
@@ -222,24 +264,54 @@ passes_tags : (tags : List Tag) → Passes (marked 35) (tags_part tags)
 passes_tags [] = tt
 passes_tags (tag ∷ tags) = (refl, tt)
 
-passes_container : (o : Option (List ℕ)) → Passes (marked 99) (container_part o)
+-- whether a field is that of the container, which the cardinality has the first byte of
+abbrev pub contained : List ℕ → Bool
+contained part = marked 99 part && eqb (get_or part 1 0) 58
+
+passes_container : (o : Option (List ℕ)) → Passes contained (container_part o)
 passes_container (Some c) = (refl, tt)
 passes_container None = tt
 
-stops_container : (o : Option ℕ) → Stops (marked 99) (time_part o)
-stops_container (Some t) = refl
-stops_container None = tt
+passes_external : (o : Option (List ℕ)) → Passes (marked 101) (external_part o)
+passes_external (Some e) = (refl, tt)
+passes_external None = tt
 
-stops_tags : (c : Option (List ℕ)) (t : Option ℕ) → Stops (marked 35) (container_part c ++ time_part t)
-stops_tags (Some c) t = refl
-stops_tags None (Some t) = refl
-stops_tags None None = tt
+passes_cardinality : (o : Option Cardinality) → Passes (marked 99) (cardinality_part o)
+passes_cardinality (Some c) = (refl, tt)
+passes_cardinality None = tt
 
-stops_rate : (tags : List Tag) (c : Option (List ℕ)) (t : Option ℕ) → Stops (marked 64) (tags_part tags ++ (container_part c ++ time_part t))
-stops_rate (tag ∷ tags) c t = refl
-stops_rate [] (Some c) t = refl
-stops_rate [] None (Some t) = refl
-stops_rate [] None None = tt
+stops_cardinality : (t : Option ℕ) → Stops (marked 99) (time_part t)
+stops_cardinality (Some t) = refl
+stops_cardinality None = tt
+
+stops_external : (k : Option Cardinality) (t : Option ℕ) → Stops (marked 101) (cardinality_part k ++ time_part t)
+stops_external (Some k) t = refl
+stops_external None (Some t) = refl
+stops_external None None = tt
+
+stops_container : (e : Option (List ℕ)) (k : Option Cardinality) (t : Option ℕ)
+    → Stops contained ((external_part e ++ cardinality_part k) ++ time_part t)
+stops_container (Some e) k t = refl
+stops_container None (Some k) t = refl
+stops_container None None (Some t) = refl
+stops_container None None None = tt
+
+stops_tags : (c e : Option (List ℕ)) (k : Option Cardinality) (t : Option ℕ)
+    → Stops (marked 35) (container_part c ++ ((external_part e ++ cardinality_part k) ++ time_part t))
+stops_tags (Some c) e k t = refl
+stops_tags None (Some e) k t = refl
+stops_tags None None (Some k) t = refl
+stops_tags None None None (Some t) = refl
+stops_tags None None None None = tt
+
+stops_rate : (tags : List Tag) (c e : Option (List ℕ)) (k : Option Cardinality) (t : Option ℕ)
+    → Stops (marked 64) (tags_part tags ++ (container_part c ++ ((external_part e ++ cardinality_part k) ++ time_part t)))
+stops_rate (tag ∷ tags) c e k t = refl
+stops_rate [] (Some c) e k t = refl
+stops_rate [] None (Some e) k t = refl
+stops_rate [] None None (Some k) t = refl
+stops_rate [] None None None (Some t) = refl
+stops_rate [] None None None None = tt
 
 rate_once : (a b : Option Number) → rate_part a ≡ rate_part b → a ≡ b
 rate_once (Some a) (Some b) e = let text : number_text a ≡ number_text b = cc in ap Some (number_once a b text)
@@ -265,6 +337,42 @@ container_once (Some a) (Some b) e = let text : a ≡ b = cc in ap Some text
 container_once (Some a) None e = absurd cc
 container_once None (Some b) e = absurd cc
 container_once None None e = refl
+
+external_once : (a b : Option (List ℕ)) → external_part a ≡ external_part b → a ≡ b
+external_once (Some a) (Some b) e = let text : a ≡ b = cc in ap Some text
+external_once (Some a) None e = absurd cc
+external_once None (Some b) e = absurd cc
+external_once None None e = refl
+
+cardinality_alike : (a b : Cardinality) → cardinality_text a ≡ cardinality_text b → a ≡ b
+cardinality_alike NoTags NoTags e = refl
+cardinality_alike Low Low e = refl
+cardinality_alike Orchestrator Orchestrator e = refl
+cardinality_alike High High e = refl
+cardinality_alike a b e = absurd (omega (arith, ap (λ t. get_or t 0 0) e, ap (λ t. length t) e))
+
+cardinality_once : (a b : Option Cardinality) → cardinality_part a ≡ cardinality_part b → a ≡ b
+cardinality_once (Some a) (Some b) e = let text : cardinality_text a ≡ cardinality_text b = cc in ap Some (cardinality_alike a b text)
+cardinality_once (Some a) None e = absurd cc
+cardinality_once None (Some b) e = absurd cc
+cardinality_once None None e = refl
+
+-- If the parts of two enrichments and of what follows are the same, so are the enrichments and what follows.
+enrichment_once : (a b : Enrichment) (s t : Option ℕ) → enrichment_parts a ++ time_part s ≡ enrichment_parts b ++ time_part t
+    → (a ≡ b) × (time_part s ≡ time_part t)
+enrichment_once a b s t e =
+    let whole = sym (append_assoc (external_part a.external) (cardinality_part a.cardinality) (time_part s))
+    ∙ e ∙ append_assoc (external_part b.external) (cardinality_part b.cardinality) (time_part t) in
+    let (externals, others) =
+    cut_once (marked 101) (external_part a.external) (external_part b.external) (cardinality_part a.cardinality ++ time_part s)
+    (cardinality_part b.cardinality ++ time_part t) (passes_external a.external) (passes_external b.external)
+    (stops_external a.cardinality s) (stops_external b.cardinality t) whole in
+    let (cardinalities, times) =
+    cut_once (marked 99) (cardinality_part a.cardinality) (cardinality_part b.cardinality) (time_part s) (time_part t)
+    (passes_cardinality a.cardinality) (passes_cardinality b.cardinality) (stops_cardinality s) (stops_cardinality t) others in
+    let external : a.external ≡ b.external = external_once a.external b.external externals in
+    let cardinality : a.cardinality ≡ b.cardinality = cardinality_once a.cardinality b.cardinality cardinalities in
+    (λ i. record { external = external i; cardinality = cardinality i }, times)
 
 time_once : (a b : Option ℕ) → time_part a ≡ time_part b → a ≡ b
 time_once (Some a) (Some b) e = let text : decimal_text a ≡ decimal_text b = cc in ap Some (decimal_text_once a b text)
@@ -313,6 +421,20 @@ container_bytes : (o : Option (List ℕ)) → IfSome o IsFreeText → PlainParts
 container_bytes (Some c) h = ((letter 99 (lit< tt) (lit< tt), (letter 58 (lit< tt) (lit< tt), plain_part c h)), tt)
 container_bytes None h = tt
 
+external_bytes : (o : Option (List ℕ)) → IfSome o IsFieldText → PlainParts (external_part o)
+external_bytes (Some e) h = ((letter 101 (lit< tt) (lit< tt), (letter 58 (lit< tt) (lit< tt), recursion_from_All PartByte e h)), tt)
+external_bytes None h = tt
+
+cardinality_letters : (c : Cardinality) → AllByRecursion PartByte (codes "card:" ++ cardinality_text c)
+cardinality_letters NoTags = (letter 99 (lit< tt) (lit< tt), (letter 97 (lit< tt) (lit< tt), (letter 114 (lit< tt) (lit< tt), (letter 100 (lit< tt) (lit< tt), (letter 58 (lit< tt) (lit< tt), (letter 110 (lit< tt) (lit< tt), (letter 111 (lit< tt) (lit< tt), (letter 110 (lit< tt) (lit< tt), (letter 101 (lit< tt) (lit< tt), tt)))))))))
+cardinality_letters Low = (letter 99 (lit< tt) (lit< tt), (letter 97 (lit< tt) (lit< tt), (letter 114 (lit< tt) (lit< tt), (letter 100 (lit< tt) (lit< tt), (letter 58 (lit< tt) (lit< tt), (letter 108 (lit< tt) (lit< tt), (letter 111 (lit< tt) (lit< tt), (letter 119 (lit< tt) (lit< tt), tt))))))))
+cardinality_letters Orchestrator = (letter 99 (lit< tt) (lit< tt), (letter 97 (lit< tt) (lit< tt), (letter 114 (lit< tt) (lit< tt), (letter 100 (lit< tt) (lit< tt), (letter 58 (lit< tt) (lit< tt), (letter 111 (lit< tt) (lit< tt), (letter 114 (lit< tt) (lit< tt), (letter 99 (lit< tt) (lit< tt), (letter 104 (lit< tt) (lit< tt), (letter 101 (lit< tt) (lit< tt), (letter 115 (lit< tt) (lit< tt), (letter 116 (lit< tt) (lit< tt), (letter 114 (lit< tt) (lit< tt), (letter 97 (lit< tt) (lit< tt), (letter 116 (lit< tt) (lit< tt), (letter 111 (lit< tt) (lit< tt), (letter 114 (lit< tt) (lit< tt), tt)))))))))))))))))
+cardinality_letters High = (letter 99 (lit< tt) (lit< tt), (letter 97 (lit< tt) (lit< tt), (letter 114 (lit< tt) (lit< tt), (letter 100 (lit< tt) (lit< tt), (letter 58 (lit< tt) (lit< tt), (letter 104 (lit< tt) (lit< tt), (letter 105 (lit< tt) (lit< tt), (letter 103 (lit< tt) (lit< tt), (letter 104 (lit< tt) (lit< tt), tt)))))))))
+
+cardinality_bytes : (o : Option Cardinality) → PlainParts (cardinality_part o)
+cardinality_bytes (Some c) = (cardinality_letters c, tt)
+cardinality_bytes None = tt
+
 time_bytes : (o : Option ℕ) → PlainParts (time_part o)
 time_bytes (Some t) = (
   (
@@ -337,12 +459,15 @@ parts_bytes m h = (
   front_bytes m h,
   (
     kind_part m.kind,
-    each_append (AllByRecursion PartByte) (rate_part m.rate) (tags_part m.tags ++ (container_part m.container ++ time_part m.time))
+    each_append (AllByRecursion PartByte) (rate_part m.rate) (tags_part m.tags ++ (container_part m.container ++ end_of m))
         (rate_bytes m.rate)
-        (each_append (AllByRecursion PartByte) (tags_part m.tags) (container_part m.container ++ time_part m.time)
+        (each_append (AllByRecursion PartByte) (tags_part m.tags) (container_part m.container ++ end_of m)
         (tags_bytes m.tags (recursion_from_All IsClearTag m.tags h.tags))
-        (each_append (AllByRecursion PartByte) (container_part m.container) (time_part m.time) (container_bytes m.container h.container)
-        (time_bytes m.time))),
+        (each_append (AllByRecursion PartByte) (container_part m.container) (end_of m) (container_bytes m.container h.container)
+        (each_append (AllByRecursion PartByte) (enrichment_parts m.enrichment) (time_part m.time)
+        (each_append (AllByRecursion PartByte) (external_part m.enrichment.external) (cardinality_part m.enrichment.cardinality)
+        (external_bytes m.enrichment.external h.external) (cardinality_bytes m.enrichment.cardinality))
+        (time_bytes m.time)))),
   ),
 )
 
@@ -369,22 +494,36 @@ line_once a b ha hb e =
     let kind : a.kind ≡ b.kind = kind_once a.kind b.kind kinds in
     let (rates, after_rate) =
     cut_once (marked 64) (rate_part a.rate) (rate_part b.rate)
-    (tags_part a.tags ++ (container_part a.container ++ time_part a.time))
-    (tags_part b.tags ++ (container_part b.container ++ time_part b.time)) (passes_rate a.rate) (passes_rate b.rate)
-    (stops_rate a.tags a.container a.time) (stops_rate b.tags b.container b.time) tail in
+    (tags_part a.tags ++ (container_part a.container ++ end_of a)) (tags_part b.tags ++ (container_part b.container ++ end_of b))
+    (passes_rate a.rate) (passes_rate b.rate)
+    (stops_rate a.tags a.container a.enrichment.external a.enrichment.cardinality a.time)
+    (stops_rate b.tags b.container b.enrichment.external b.enrichment.cardinality b.time) tail in
     let (tags, after_tags) =
-    cut_once (marked 35) (tags_part a.tags) (tags_part b.tags) (container_part a.container ++ time_part a.time)
-    (container_part b.container ++ time_part b.time) (passes_tags a.tags) (passes_tags b.tags) (stops_tags a.container a.time)
-    (stops_tags b.container b.time) after_rate in
-    let (containers, times) =
-    cut_once (marked 99) (container_part a.container) (container_part b.container) (time_part a.time) (time_part b.time)
-    (passes_container a.container) (passes_container b.container) (stops_container a.time) (stops_container b.time) after_tags in
+    cut_once (marked 35) (tags_part a.tags) (tags_part b.tags) (container_part a.container ++ end_of a)
+    (container_part b.container ++ end_of b) (passes_tags a.tags) (passes_tags b.tags)
+    (stops_tags a.container a.enrichment.external a.enrichment.cardinality a.time)
+    (stops_tags b.container b.enrichment.external b.enrichment.cardinality b.time) after_rate in
+    let (containers, ends) =
+    cut_once contained (container_part a.container) (container_part b.container) (end_of a) (end_of b)
+    (passes_container a.container) (passes_container b.container)
+    (stops_container a.enrichment.external a.enrichment.cardinality a.time)
+    (stops_container b.enrichment.external b.enrichment.cardinality b.time) after_tags in
+    let (enrichment, times) = enrichment_once a.enrichment b.enrichment a.time b.time ends in
     let rate : a.rate ≡ b.rate = rate_once a.rate b.rate rates in
     let tag : a.tags ≡ b.tags =
     tags_once a.tags b.tags (recursion_from_All IsClearTag a.tags ha.tags) (recursion_from_All IsClearTag b.tags hb.tags) tags in
     let container : a.container ≡ b.container = container_once a.container b.container containers in
     let time : a.time ≡ b.time = time_once a.time b.time times in
-    λ i. record { name = name i; numbers = numbers i; kind = kind i; rate = rate i; tags = tag i; container = container i; time = time i }
+    λ i. record {
+      name = name i;
+      numbers = numbers i;
+      kind = kind i;
+      rate = rate i;
+      tags = tag i;
+      container = container i;
+      enrichment = enrichment i;
+      time = time i;
+    }
 
 -- No line is empty.
 pub line_is_not_empty : (m : Metric) → 0 < length (line_of m)

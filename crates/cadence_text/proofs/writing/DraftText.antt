@@ -13,14 +13,15 @@ use Rattle.cadence_text.specs.DraftParts.{IsCutAt}
 use Rattle.cadence_text.specs.PieceWriters.{rotated_text}
 use Rattle.cadence_value.specs.Number.{numbers_text}
 use Rattle.cadence_text.specs.Draft.{Draft, draft_line, draft_of, draft_with, head_with, lead, tags_text_with, with_tag_text}
-use Rattle.cadence_text.specs.Line.{container_field, key_text, kind_text, line_of, line_with, rate_field, tag_text, tags_field, time_field}
+use Rattle.cadence_text.specs.Line.{container_field, enrichment_fields, key_text, kind_text, line_of, line_with, rate_field, tag_text, tags_field, time_field}
 use Rattle.cadence_text.specs.Metric.{Metric, Tag, with_tag}
 use Rattle.cadence_text.specs.MetricInMemory.{IsTextInMemory, IsTagInMemory}
 
 -- The line of a draft with a text as its value has this value, and all else from the metric.
 pub line_of_draft_with : (value : List ℕ) (m : Metric) → draft_line (draft_with value m) ≡ line_with value m
 line_of_draft_with value m =
-    let rest = rate_field m.rate ++ (tags_field m.tags ++ (container_field m.container ++ time_field m.time)) in
+    let rest =
+    rate_field m.rate ++ (tags_field m.tags ++ (container_field m.container ++ (enrichment_fields m.enrichment ++ time_field m.time))) in
     append_assoc m.name (58 ∷ (value ++ (124 ∷ kind_text m.kind))) rest
     ∙ ap (λ t. m.name ++ (58 ∷ t)) (append_assoc value (124 ∷ kind_text m.kind) rest)
 
@@ -40,8 +41,7 @@ added_tag (x ∷ tags) t =
 
 pub tagged_draft : (value : List ℕ) (m : Metric) (t : Tag) → with_tag_text (draft_with value m) t ≡ draft_with value (with_tag m t)
 tagged_draft value m t =
-    ap (λ tags. record { head = head_with m.name value m.kind; tags = tags; rate = m.rate; container = m.container; time = m.time })
-    (added_tag m.tags t)
+    ap (λ tags. record (draft_with value m) { tags = tags }) (added_tag m.tags t)
 
 pub draft_with_tag : (m : Metric) (t : Tag) → with_tag_text (draft_of m) t ≡ draft_of (with_tag m t)
 draft_with_tag m t = tagged_draft (numbers_text m.numbers) m t

@@ -14,8 +14,11 @@ use Rattle.cadence_text.specs.declared.line.MetricType.TheVariants.{Counter, Tim
 use Rattle.cadence_value.specs.Number.{Number, decimal_text, number_text, places_text, joined_texts, numbers_text, IsDecimal}
 use Rattle.cadence_text.specs.Draft.{head_text, head_with}
 use Rattle.cadence_text.specs.TextValue.{change_text}
-use Rattle.cadence_text.specs.Metric.{Metric, Tag}
+use Rattle.cadence_text.specs.declared.line.enrichment.Cardinality.{Cardinality}
+use Rattle.cadence_text.specs.declared.line.enrichment.Cardinality.TheVariants.{NoTags, Low, Orchestrator, High}
+use Rattle.cadence_text.specs.Metric.{Enrichment, Metric, Tag}
 use Rattle.cadence_text.specs.Line.{kind_text, rate_field, key_text, tag_text, tags_field, container_field, time_field, line_of}
+use Rattle.cadence_text.specs.Line.{cardinality_field, enrichment_fields, external_field}
 use Rattle.cadence_text.specs.MetricInMemory.{IsTagInMemory, IsMetricInMemory, IsTimestamp, IsTextInMemory, AreNumbersInMemory, AreTagsInMemory}
 use Rattle.cadence_text.specs.Representable.{IsRepresentable, IsRepresentableTag}
 use Rattle.cadence_value.proofs.lists.SplitTexts.{each_weaker}
@@ -97,6 +100,26 @@ container_short : (o : Option (List ℕ)) → IfSome o IsTextInMemory → length
 container_short (Some c) h = omega (arith, h.0)
 container_short None h = omega arith
 
+external_short : (o : Option (List ℕ)) → IfSome o IsTextInMemory → length (external_field o) ≤ 2 ^ 64
+external_short (Some e) h = omega (arith, h.0)
+external_short None h = omega arith
+
+cardinality_short : (o : Option Cardinality) → length (cardinality_field o) ≤ 18
+cardinality_short (Some NoTags) = omega arith
+cardinality_short (Some Low) = omega arith
+cardinality_short (Some Orchestrator) = omega arith
+cardinality_short (Some High) = omega arith
+cardinality_short None = omega arith
+
+enrichment_short : (e : Enrichment) → IfSome e.external IsTextInMemory → length (enrichment_fields e) ≤ 2 ^ 65
+enrichment_short e h =
+    omega (
+      arith,
+      external_short e.external h,
+      cardinality_short e.cardinality,
+      length-append (external_field e.external) (cardinality_field e.cardinality),
+    )
+
 time_short : (o : Option ℕ) → IsTimestamp o → length (time_field o) ≤ 22
 time_short (Some t) h = let digits : length (decimal_text t) ≤ 20 = length-decimal_text-le 20 t (lit< tt) (omega (arith, h)) in omega arith
 time_short None h = omega arith
@@ -148,7 +171,8 @@ change_short n h =
 pub line_is_short : (m : Metric) → IsMetricInMemory m → length (line_of m) < 2 ^ 126
 unfolding line_of
 line_is_short m h =
-    let last = container_field m.container ++ time_field m.time in
+    let ending = enrichment_fields m.enrichment ++ time_field m.time in
+    let last = container_field m.container ++ ending in
     let tagged = tags_field m.tags ++ last in
     let rated = rate_field m.rate ++ tagged in
     let kinded = kind_text m.kind ++ rated in
@@ -161,13 +185,15 @@ line_is_short m h =
       rate_short m.rate h.rate,
       tags_short m.tags h.tags,
       container_short m.container h.container,
+      enrichment_short m.enrichment h.external,
       time_short m.time h.time,
       length-append m.name (58 ∷ numbered),
       length-append (numbers_text m.numbers) (124 ∷ kinded),
       length-append (kind_text m.kind) rated,
       length-append (rate_field m.rate) tagged,
       length-append (tags_field m.tags) last,
-      length-append (container_field m.container) (time_field m.time),
+      length-append (container_field m.container) ending,
+      length-append (enrichment_fields m.enrichment) (time_field m.time),
     )
 
 said_text : (o : Option (List ℕ)) → IfSome o IsTextInMemory → IfSome o IsUtf8
@@ -185,6 +211,7 @@ record_said m h = record {
   rate = h.rate;
   tags = All-weaker IsTagInMemory IsRepresentableTag said_tag m.tags h.tags.each;
   container = said_text m.container h.container;
+  external = said_text m.enrichment.external h.external;
   time = h.time;
 }
 

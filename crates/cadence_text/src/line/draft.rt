@@ -15,12 +15,13 @@ ghost use Rattle.std.specs.Option.{option_copied};
 ghost use Rattle.cadence_text.specs.Cleaned.{container_as, tag_as, text_as};
 ghost use Rattle.cadence_text.specs.Draft.{draft_line, draft_of, with_tag_text};
 ghost use Rattle.cadence_text.specs.DraftParts.{IsRepresentableHead, draft_of_head, plain_draft, text_of_head};
-ghost use Rattle.cadence_text.specs.Line.{container_field, line_of, time_field};
-ghost use Rattle.cadence_text.specs.Metric.{Metric, with_tag};
-ghost use Rattle.cadence_text.specs.Record.{tag_of};
+ghost use Rattle.cadence_text.specs.Line.{container_field, enrichment_fields, line_of, time_field};
+ghost use Rattle.cadence_text.specs.Metric.{Enrichment, Metric, with_tag};
+ghost use Rattle.cadence_text.specs.Record.{enrichment_of, tag_of};
 ghost use Rattle.cadence_text.specs.Representable.{IsRepresentableTag};
 ghost use Rattle.cadence_value.specs.Number.{IsDecimal};
 
+use crate::line::enrichment::{Cardinality, Enrichment};
 use crate::line::line_buf::LineBuf;
 use crate::line::options::{Rate, insert_rate, last_room};
 use crate::line::pieces::push_last_as;
@@ -39,13 +40,14 @@ pub use text::{TextValue, is_member};
 /// The draft of a line, to which tags and options can be added until the line is finished. The Rust crate has no such
 /// type.
 ///
-/// The buffer has the head and the tags. The rate, the container and the time are fields of the draft until `into_text`
-/// or `into_bytes` writes them. Contracts see the value as a `Draft` of the definitions.
+/// The buffer has the head and the tags. The other options are fields of the draft until `into_text` or `into_bytes`
+/// writes them. Contracts see the value as a `Draft` of the definitions.
 #[derive(Drop)]
 pub struct DraftLine<'a, A: Allocator = Global> {
     line: LineBuf<A>,
     head: usize,
     container: Option<&'a str>,
+    enrichment: Enrichment<'a>,
     time: Option<u64>,
     rate: Option<Rate>,
     // Whether the container is cleaned when it is written.
@@ -106,6 +108,10 @@ fn with_tags<'a, A: Allocator>(
         head: first,
         rate: None,
         container,
+        enrichment: Enrichment {
+            external: None,
+            cardinality: None,
+        },
         time: None,
         is_cleaned: false,
     }
@@ -128,8 +134,8 @@ fn room_for(count: u128, tags: &str, more: usize) -> Result<(usize, usize), Allo
 }
 
 impl<'a, A: Allocator> DraftLine<'a, A> {
-    /// Returns the draft of a head, of tags that are text already and of a container, without a rate and a time. It
-    /// takes memory once, for the text and for `more` bytes, so that tags of that length take none.
+    /// Returns the draft of a head, of tags that are text already and of a container, without other options. It takes
+    /// memory once, for the text and for `more` bytes, so that tags of that length take none.
     ///
     /// The only error is that memory ran out or that the length passes `usize::MAX`.
     // Without this hint a call of `bench count` takes 134 instructions more.
@@ -208,16 +214,8 @@ impl<'a, A: Allocator> DraftLine<'a, A> {
         self.rate = Some(Rate::of(rate));
     }
 
-    /// Sets the id of the container (DogStatsD), in place of an earlier one.
-    pub fn set_container(&mut self, container: &'a str)
-        ensures container { self.new ≡ record self.old { container = Some container.now } }
-        ensures representable { IsUtf8 container.now }
-    {
-        self.container = Some(container);
-        self.is_cleaned = false;
-    }
-
-    /// Sets the id of the container as `set_container` does, cleaned (`cleaned`) if `is_cleaned` is set.
+    /// Sets the id of the container (DogStatsD), in place of an earlier one. It is cleaned (`cleaned`) if `is_cleaned` is
+    /// set.
     pub fn set_container_as(&mut self, container: &'a str, is_cleaned: bool)
         ensures container { self.new ≡
             record self.old { container = Some (text_as is_cleaned container.now) } }
@@ -225,6 +223,22 @@ impl<'a, A: Allocator> DraftLine<'a, A> {
     {
         self.container = Some(container);
         self.is_cleaned = is_cleaned;
+    }
+
+    /// Sets the external data and the cardinality (DogStatsD), in place of earlier ones.
+    #[inline(always)]
+    pub fn set_enrichment(&mut self, enrichment: Enrichment<'a>)
+        ensures { self.new ≡ record self.old { enrichment = enrichment_of enrichment.entry } }
+    {
+        self.enrichment = enrichment;
+    }
+
+    /// Sets the cardinality (DogStatsD), in place of an earlier one.
+    pub fn set_cardinality(&mut self, cardinality: Cardinality)
+        ensures { self.new ≡ record self.old
+            { enrichment = record (self.old).enrichment { cardinality = Some cardinality } } }
+    {
+        self.enrichment.cardinality = Some(cardinality);
     }
 
     /// Sets the timestamp (DogStatsD, in seconds since 1970), in place of an earlier one.
@@ -235,8 +249,8 @@ impl<'a, A: Allocator> DraftLine<'a, A> {
         self.time = Some(time);
     }
 
-    /// Returns the finished line. It takes memory if the buffer has too little room for the rate, the container and the
-    /// time. The only error is that memory ran out; the draft is dropped then.
+    /// Returns the finished line. It takes memory if the buffer has too little room for the rate and the options that
+    /// end a line. The only error is that memory ran out; the draft is dropped then.
     // Without this hint a call of `bench count` takes 77 instructions more.
     #[inline(always)]
     #[tactic(auto, using(crate::proofs::writing::DraftText::line_of_metric))]
@@ -272,6 +286,7 @@ impl<'a, A: Allocator> DraftLine<'a, A> {
             head,
             rate,
             container,
+            enrichment,
             time,
             is_cleaned,
         } = self;
@@ -279,32 +294,34 @@ impl<'a, A: Allocator> DraftLine<'a, A> {
         if rate.is_some() {
             insert_rate(&mut line, head, &rate)?;
         }
-        end_with(&mut line, container, time, is_cleaned)?;
+        end_with(&mut line, container, &enrichment, time, is_cleaned)?;
         Ok(line)
     }
 }
 
-// Writes the fields of a container and a time at the end of a line.
+// Writes the fields of a container, an enrichment and a time at the end of a line.
 // Without this hint a call of `bench count` takes 21 instructions more.
 #[inline(always)]
 fn end_with<A: Allocator>(
     line: &mut LineBuf<A>,
     container: Option<&str>,
+    enrichment: &Enrichment<'_>,
     time: Option<u64>,
     is_cleaned: bool,
 ) -> Result<(), AllocError>
     requires { 0 < length line.old.bytes.items }
     ensures { OnOk result (line.new.bytes.items ≡ line.old.bytes.items
         ++ (container_field (container_as is_cleaned (option_copied container.entry))
-        ++ time_field time)) }
+        ++ (enrichment_fields (enrichment_of enrichment.now) ++ time_field time))) }
 {
-    if container.is_none() && time.is_none() {
+    let is_plain = enrichment.external.is_none() && enrichment.cardinality.is_none();
+    if is_plain && container.is_none() && time.is_none() {
         return Ok(());
     }
-    let Some(room) = last_room(container, time) else {
+    let Some(room) = last_room(container, enrichment, time) else {
         return Err(AllocError);
     };
     line.reserve(room)?;
-    push_last_as(line, container, time, is_cleaned);
+    push_last_as(line, container, enrichment, time, is_cleaned);
     Ok(())
 }

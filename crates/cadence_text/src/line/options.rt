@@ -1,16 +1,16 @@
-//! The options that end a line: the sampling rate, as a draft stores it and as a line has it, and the room of a container
-//! and a time.
+//! The sampling rate, as a draft stores it and as a line has it, and the room of the options that end a line.
 ghost use Rattle.std.specs.Prelude.{◌≡◌, ◌++◌, ◌<◌, ◌≤◌, IfSome, OnOk, drop, length, take};
 ghost use Rattle.std.specs.Option.{option_copied};
 ghost use Rattle.cadence_value.specs.Number.{IsDecimal};
 ghost use Rattle.cadence_text.specs.DraftParts.{IsCutAt};
-ghost use Rattle.cadence_text.specs.Line.{container_field, rate_field, time_field};
+ghost use Rattle.cadence_text.specs.Line.{container_field, enrichment_fields, rate_field, time_field};
+ghost use Rattle.cadence_text.specs.Record.{enrichment_of};
 ghost use Rattle.cadence_value.specs.Takes.{Takes};
 
+use crate::line::enrichment::Enrichment;
 use crate::line::line_buf::{LengthCounter, LineBuf};
-use crate::line::pieces::push_rate_of;
 use cadence_value::decimal::Decimal;
-use cadence_value::text::{PieceWriter, number_len};
+use cadence_value::text::{PieceWriter, number_len, push_number};
 use std::alloc::{AllocError, Allocator};
 use std::marker::Model;
 
@@ -66,13 +66,15 @@ impl Rate {
     }
 }
 
-// Writes the field of a stored rate, or nothing if there is none.
-fn push_kept_rate<S: PieceWriter>(line: &mut S, rate: &Option<Rate>)
+// Writes the field of a rate, or nothing if there is none.
+pub(crate) fn push_rate<S: PieceWriter>(line: &mut S, rate: &Option<Rate>)
     ensures taken { Takes S.ends_as line.old (rate_field rate.now) line.new }
     ensures sized { IfSome rate.now IsDecimal }
 {
     if let Some(rate) = rate {
-        push_rate_of(line, rate.mantissa(), rate.places());
+        line.take_byte(b'|');
+        line.take_byte(b'@');
+        push_number(line, rate.mantissa(), rate.places());
     }
 }
 
@@ -82,12 +84,12 @@ fn add_rate<A: Allocator>(line: &mut LineBuf<A>, rate: &Option<Rate>) -> Result<
     ensures { OnOk result (line.new.bytes.items ≡ line.old.bytes.items ++ rate_field rate.now) }
 {
     let mut counter = LengthCounter::new();
-    push_kept_rate(&mut counter, rate);
+    push_rate(&mut counter, rate);
     let Ok(length) = usize::try_from(counter.length()) else {
         return Err(AllocError);
     };
     line.reserve(length)?;
-    push_kept_rate(line, rate);
+    push_rate(line, rate);
     Ok(())
 }
 
@@ -108,17 +110,31 @@ pub(crate) fn insert_rate<A: Allocator>(
     Ok(())
 }
 
-// Returns the length of the fields of a container and a time in bytes, or `None` if it passes `usize::MAX`.
-pub(crate) fn last_room(container: Option<&str>, time: Option<u64>) -> Option<usize>
-    ensures { IfSome result (λ n. n ≡
-        length (container_field (option_copied container.entry) ++ time_field time)) }
+// Returns the length of the fields of a container, an enrichment and a time in bytes, or `None` if it passes
+// `usize::MAX`.
+pub(crate) fn last_room(
+    container: Option<&str>,
+    enrichment: &Enrichment<'_>,
+    time: Option<u64>,
+) -> Option<usize>
+    ensures { IfSome result (λ n. n ≡ length (container_field (option_copied container.entry)
+        ++ (enrichment_fields (enrichment_of enrichment.now) ++ time_field time))) }
 {
     let time = match time {
         Some(time) => number_len(time).checked_add(2)?,
         None => 0,
     };
+    let cardinality = match enrichment.cardinality {
+        Some(cardinality) => cardinality.text().len().checked_add(6)?,
+        None => 0,
+    };
+    let external = match enrichment.external {
+        Some(external) => external.len().checked_add(3)?,
+        None => 0,
+    };
+    let last = external.checked_add(cardinality)?.checked_add(time)?;
     match container {
-        Some(container) => container.len().checked_add(3)?.checked_add(time),
-        None => Some(time),
+        Some(container) => container.len().checked_add(3)?.checked_add(last),
+        None => Some(last),
     }
 }

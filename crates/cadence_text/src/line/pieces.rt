@@ -1,20 +1,19 @@
 //! The functions that write the pieces of a line, in the order in which they are written.
-ghost use Rattle.std.specs.Prelude.{◌++◌, ◌^◌, ◌<◌, ◌≤◌, IfSome, Some, length, map, true};
+ghost use Rattle.std.specs.Prelude.{◌++◌, ◌^◌, ◌<◌, IfSome, length, map, true};
 ghost use Rattle.std.specs.Option.{option_copied};
 ghost use Rattle.cadence_text.specs.Cleaned.{container_as, tag_as};
 ghost use Rattle.cadence_text.specs.Draft.{lead};
-ghost use Rattle.cadence_text.specs.Line.{container_field, rate_field, tag_text, tags_field, time_field};
-ghost use Rattle.cadence_value.specs.Number.{IsDecimal, number};
+ghost use Rattle.cadence_text.specs.Line.{container_field, enrichment_fields, tag_text, tags_field, time_field};
 ghost use Rattle.cadence_value.specs.InMemory.{IsTextInMemory};
 ghost use Rattle.cadence_value.specs.Takes.{Takes};
 ghost use Rattle.cadence_text.specs.PieceWriters.{line_buf_ends};
-ghost use Rattle.cadence_text.specs.Record.{tag_of};
+ghost use Rattle.cadence_text.specs.Record.{enrichment_of, tag_of};
 ghost use Rattle.cadence_text.specs.MetricInMemory.{AreTagsInMemory, IsTagInMemory, IsTimestamp};
 
+use crate::line::enrichment::Enrichment;
 use crate::line::line_buf::LineBuf;
 use crate::line::tag::Tag;
-use cadence_value::decimal::Decimal;
-use cadence_value::text::{ByteWriter, PieceWriter, push_number};
+use cadence_value::text::{ByteWriter, PieceWriter};
 use core::mem;
 use std::alloc::Allocator;
 
@@ -92,11 +91,17 @@ pub(crate) fn push_tags<S: PieceWriter>(line: &mut S, tags: &[Tag<'_>])
     }
 }
 
-// Writes the fields of a container and a time, which end a line.
-pub(crate) fn push_last<S: PieceWriter>(line: &mut S, container: Option<&str>, time: Option<u64>)
-    ensures taken { Takes S.ends_as line.old
-        (container_field (option_copied container.entry) ++ time_field time) line.new }
+// Writes the fields of a container, an enrichment and a time, which end a line.
+pub(crate) fn push_last<S: PieceWriter>(
+    line: &mut S,
+    container: Option<&str>,
+    enrichment: &Enrichment<'_>,
+    time: Option<u64>,
+)
+    ensures taken { Takes S.ends_as line.old (container_field (option_copied container.entry)
+        ++ (enrichment_fields (enrichment_of enrichment.now) ++ time_field time)) line.new }
     ensures container { IfSome (option_copied container.entry) IsTextInMemory }
+    ensures external { IfSome (enrichment_of enrichment.now).external IsTextInMemory }
     ensures time { IsTimestamp time }
 {
     if let Some(container) = container {
@@ -105,6 +110,14 @@ pub(crate) fn push_last<S: PieceWriter>(line: &mut S, container: Option<&str>, t
         line.take_byte(b':');
         line.take_piece(container);
     }
+    if let Some(external) = enrichment.external {
+        line.take_piece("|e:");
+        line.take_piece(external);
+    }
+    if let Some(cardinality) = enrichment.cardinality {
+        line.take_piece("|card:");
+        line.take_piece(cardinality.text());
+    }
     if let Some(time) = time {
         line.take_byte(b'|');
         line.take_byte(b'T');
@@ -112,17 +125,19 @@ pub(crate) fn push_last<S: PieceWriter>(line: &mut S, container: Option<&str>, t
     }
 }
 
-// Writes the fields of a cleaned container and of a time. Few clients clean texts, so the path of the others has no
+// Writes what `push_last` writes, with a cleaned container. Few clients clean texts, so the path of the others has no
 // part of this.
 #[cold]
 #[inline(never)]
 fn push_cleaned_last<A: Allocator>(
     line: &mut LineBuf<A>,
     container: Option<&str>,
+    enrichment: &Enrichment<'_>,
     time: Option<u64>,
 )
     ensures { Takes line_buf_ends line.old (container_field
-        (container_as true (option_copied container.entry)) ++ time_field time) line.new }
+        (container_as true (option_copied container.entry))
+        ++ (enrichment_fields (enrichment_of enrichment.now) ++ time_field time)) line.new }
 {
     if let Some(container) = container {
         line.take_byte(b'|');
@@ -130,40 +145,23 @@ fn push_cleaned_last<A: Allocator>(
         line.take_byte(b':');
         line.take_cleaned(container, false);
     }
-    push_last(line, None, time);
+    push_last(line, None, enrichment, time);
 }
 
-// Writes the fields of a container and a time. The container is written as it is, or cleaned.
+// Writes what `push_last` writes. The container is written as it is, or cleaned.
 pub(crate) fn push_last_as<A: Allocator>(
     line: &mut LineBuf<A>,
     container: Option<&str>,
+    enrichment: &Enrichment<'_>,
     time: Option<u64>,
     is_cleaned: bool,
 )
     ensures { Takes line_buf_ends line.old (container_field
-        (container_as is_cleaned (option_copied container.entry)) ++ time_field time) line.new }
+        (container_as is_cleaned (option_copied container.entry))
+        ++ (enrichment_fields (enrichment_of enrichment.now) ++ time_field time)) line.new }
 {
     if is_cleaned {
-        return push_cleaned_last(line, container, time);
+        return push_cleaned_last(line, container, enrichment, time);
     }
-    push_last(line, container, time)
-}
-
-pub(crate) fn push_rate<S: PieceWriter>(line: &mut S, rate: Option<Decimal>)
-    ensures taken { Takes S.ends_as line.old (rate_field rate) line.new }
-    ensures sized { IfSome rate IsDecimal }
-{
-    if let Some(rate) = rate {
-        push_rate_of(line, rate.mantissa(), rate.places());
-    }
-}
-
-// Writes the field of the rate `mantissa` over 10 to the power of `places`.
-pub(crate) fn push_rate_of<S: PieceWriter>(line: &mut S, mantissa: i128, places: u8)
-    requires { places ≤ 30 }
-    ensures { Takes S.ends_as line.old (rate_field (Some (number mantissa places))) line.new }
-{
-    line.take_byte(b'|');
-    line.take_byte(b'@');
-    push_number(line, mantissa, places);
+    push_last(line, container, enrichment, time)
 }

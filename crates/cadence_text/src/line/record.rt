@@ -5,8 +5,10 @@ mod same;
 
 use crate::line::MetricType;
 use crate::line::draft::{Head, push_head};
+use crate::line::enrichment::Enrichment;
 use crate::line::line_buf::{LengthCounter, LineBuf};
-use crate::line::pieces::{push_last, push_rate, push_tags};
+use crate::line::options::{Rate, push_rate};
+use crate::line::pieces::{push_last, push_tags};
 use crate::line::tag::Tag;
 use cadence_errors::MetricResult;
 use cadence_value::decimal::Decimal;
@@ -31,9 +33,10 @@ use std::marker::Model;
 #[derive(Drop)]
 pub struct Record<'a, A: Allocator = Global> {
     head: Head<'a, A>,
-    rate: Option<Decimal>,
+    rate: Option<Rate>,
     tags: Vec<Tag<'a>, A>,
     container: Option<&'a str>,
+    enrichment: Enrichment<'a>,
     time: Option<u64>,
 }
 
@@ -55,14 +58,14 @@ impl<'a, A: Allocator> Record<'a, A> {
     ghost use Rattle.cadence_errors.specs.Errors.{MayOnlyRunOutOfMemory};
     ghost use Rattle.cadence_text.specs.Line.{line_of};
     ghost use Rattle.cadence_text.specs.Metric.{Metric, plain_metric, with_tag};
-    ghost use Rattle.cadence_text.specs.Record.{tag_of};
+    ghost use Rattle.cadence_text.specs.Record.{enrichment_of, tag_of};
     ghost use Rattle.cadence_text.specs.MetricInMemory.{IsMetricInMemory};
     ghost use Rattle.cadence_text.specs.Representable.{IsRepresentable};
     ghost use Rattle.cadence_value.specs.Takes.{Takes};
     ghost use Rattle.cadence_value.specs.Values.{numbers_of};
 
-    /// Returns a record without a rate, tags, a container and a time. The prefix is used as it is: no dot is added. It
-    /// takes no memory; `alloc` is for tags that are added later.
+    /// Returns a record without optional fields. The prefix is used as it is: no dot is added. It takes no memory;
+    /// `alloc` is for tags that are added later.
     pub fn new(
         alloc: A,
         prefix: &'a str,
@@ -75,7 +78,7 @@ impl<'a, A: Allocator> Record<'a, A> {
         Record::with_defaults(prefix, key, kind, value, Vec::new(alloc), None)
     }
 
-    /// Returns a record with tags and a container, without a rate and a time. It takes no memory.
+    /// Returns a record with tags and a container, without other optional fields. It takes no memory.
     pub fn with_defaults(
         prefix: &'a str,
         key: &'a str,
@@ -97,6 +100,10 @@ impl<'a, A: Allocator> Record<'a, A> {
             rate: None,
             tags,
             container,
+            enrichment: Enrichment {
+                external: None,
+                cardinality: None,
+            },
             time: None,
         }
     }
@@ -115,7 +122,7 @@ impl<'a, A: Allocator> Record<'a, A> {
     pub fn set_rate(&mut self, rate: Decimal)
         ensures { self.new ≡ record self.old { rate = Some rate } }
     {
-        self.rate = Some(rate);
+        self.rate = Some(Rate::of(rate));
     }
 
     /// Sets the id of the container (DogStatsD), in place of an earlier one.
@@ -123,6 +130,13 @@ impl<'a, A: Allocator> Record<'a, A> {
         ensures { self.new ≡ record self.old { container = Some container.now } }
     {
         self.container = Some(container);
+    }
+
+    /// Sets the external data and the cardinality (DogStatsD), in place of earlier ones.
+    pub fn set_enrichment(&mut self, enrichment: Enrichment<'a>)
+        ensures { self.new ≡ record self.old { enrichment = enrichment_of enrichment.entry } }
+    {
+        self.enrichment = enrichment;
     }
 
     /// Sets the timestamp (DogStatsD, in seconds since 1970), in place of an earlier one.
@@ -138,9 +152,9 @@ impl<'a, A: Allocator> Record<'a, A> {
         ensures sized { IsMetricInMemory self.now }
     {
         push_head(line, &self.head);
-        push_rate(line, self.rate);
+        push_rate(line, &self.rate);
         push_tags(line, &self.tags);
-        push_last(line, self.container, self.time);
+        push_last(line, self.container, &self.enrichment, self.time);
     }
 
     /// Returns the length of the line in bytes, without making the line. It returns `None` only if the length passes
@@ -173,7 +187,8 @@ impl<'a, A: Allocator> Record<'a, A> {
     }
 
     /// Returns the line of the record's metric, which is never empty. Its fields have this order: name, numbers, type
-    /// text, rate, tags, container, time. It takes memory once, as many bytes as the line has (`line_len`).
+    /// text, rate, tags, container, external data, cardinality, time. It takes memory once, as many bytes as the line
+    /// has (`line_len`).
     ///
     /// The only error is `SinkError::OutOfMemory`: memory ran out, or the length passes `usize::MAX`.
     #[tactic(auto, using(crate::proofs::grammar::LineText::line_is_not_empty, crate::proofs::writing::LineLength::record_said))]

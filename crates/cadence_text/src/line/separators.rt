@@ -1,7 +1,7 @@
 //! The separators of a line: the bytes that end a name, a tag or a container id in it.
 ghost use Rattle.std.specs.Prelude.{◌≡◌, ◌<◌, ◌≤◌, ◌↔◌, ℕ, IsTrue, length, slice_index};
-ghost use Rattle.cadence_text.specs.FreeTexts.{is_free_after_key, is_free_text};
-ghost use Rattle.cadence_text.specs.OneReading.{AreSeparatorFlags, IsFreeAfterKey, IsFreeText, IsNoSeparator, IsNoTagEnd};
+ghost use Rattle.cadence_text.specs.FreeTexts.{is_field_text, is_free_after_key, is_free_text};
+ghost use Rattle.cadence_text.specs.OneReading.{AreSeparatorFlags, IsFieldText, IsFreeAfterKey, IsFreeText, IsNoSeparator, IsNoTagEnd};
 
 // For each byte, 1 if it is a separator and 0 otherwise. A look at this table takes fewer instructions than comparisons.
 const FLAGS: [u8; 256] = [
@@ -89,4 +89,12 @@ pub fn is_free_after_key(text: &[u8]) -> bool
         at += 1;
     }
     at == text.len()
+}
+
+/// Returns whether a text has no bar and no newline, so that it can be the text of a field, as external data are.
+pub fn is_field_text(text: &[u8]) -> bool
+    ensures test { result ≡ is_field_text text.now }
+    ensures field { IsTrue result ↔ IsFieldText text.now }
+{
+    text.iter().all(|byte| *byte != b'|' && *byte != b'\n')
 }

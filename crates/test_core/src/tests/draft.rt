@@ -56,7 +56,7 @@ fn set_all<A: Allocator>(
                 };
                 draft.set_rate(half);
             }
-            Choice::Container(id) => draft.set_container(id),
+            Choice::Container(id) => draft.set_container_as(id, false),
             Choice::Time(time) => draft.set_time(time),
         }
     }

@@ -1,12 +1,12 @@
-use Rattle.std.proofs.Common.{◌++◌, ◌∷◌, ◌<◌, [], length, take, get_or, arith, refl, subst, sym, ◌∙◌, length-append, rules}
+use Rattle.std.proofs.Common.{◌≡◌, ◌+◌, ◌-◌, ◌++◌, ◌∷◌, ◌<◌, [], length, take, get_or, arith, refl, subst, sym, ◌∙◌, length-append, rules}
 use Rattle.cadence_aggregate.specs.Led.{AllLead, lead_joined}
 use Rattle.std.proofs.lemmas.List.{take_all, take_more, length-take-le}
 use Rattle.cadence_aggregate.specs.declared.runs.Step.{Step}
 use Rattle.std.specs.Prelude.{pos}
 use Rattle.cadence_aggregate.specs.declared.line.Line.TheVariants.{Amount}
-use Rattle.cadence_aggregate.specs.declared.runs.Step.TheVariants.{Add}
+use Rattle.cadence_aggregate.specs.declared.runs.Step.TheVariants.{Add, Flush}
 use Rattle.cadence_aggregate.specs.Aggregate.{held}
-use Rattle.cadence_aggregate.proofs.RunSteps.{step_said, step_within}
+use Rattle.cadence_aggregate.proofs.RunSteps.{flushed_last, step_said, step_within}
 use Rattle.cadence_aggregate.proofs.runs.run.Goals as goal
 
 pub loop-step-preserved : goal.loop-step-preserved
@@ -26,6 +26,8 @@ loop-step-preserved g c =
       same = rw (take_more steps i d lt, c.in_ok-push.ensures.items)
           (step_said (sent c.args.sink.now) (sent c.loop-step.sink ++ held c.loop-step.aggregator) (sent next.sink ++ held next.aggregator) (take i steps) past (get_or steps i d) reply
           (omega (arith, c.loop-step.invariant.replies, n)) c.loop-step.invariant.same c.take_step-reply.ensures.said);
+      flushed = rw c.in_ok-push.ensures.items
+          (flushed_last (held next.aggregator ≡ []) Flush steps past d reply i (i + 1 - 1) (omega arith) lt c.loop-step.invariant.replies c.take_step-reply.ensures.flushed);
       leads = subst (λ rs. AllLead leads c.args.sink.now rs next.sink) (sym c.in_ok-push.ensures.items)
           (lead_joined leads past (reply ∷ []) c.args.sink.now c.loop-step.sink next.sink c.loop-step.invariant.leads (next.sink, c.take_step-reply.ensures.leads, refl));
       limit = c.take_step-reply.ensures.limit ∙ c.loop-step.invariant.limit;

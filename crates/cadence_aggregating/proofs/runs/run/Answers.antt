@@ -1,13 +1,14 @@
 use Rattle.std.specs.Prelude.{All}
-use Rattle.std.proofs.Common.{◌≡◌, ◌++◌, ◌∷◌, ◌<◌, ◌≤◌, ℕ, List, [], length, take, get_or, arith, ap, sym, ◌∙◌, subst, length-append}
+use Rattle.std.proofs.Common.{◌≡◌, ◌+◌, ◌-◌, ◌++◌, ◌∷◌, ◌<◌, ◌≤◌, ℕ, List, [], length, take, get_or, arith, ap, sym, ◌∙◌, subst, length-append}
 use Rattle.std.proofs.lemmas.List.{take_all, take_more, length-take-le}
+use Rattle.cadence_aggregate.proofs.RunSteps.{flushed_last}
 use Rattle.cadence_aggregating.specs.Origins.{ComesFrom}
 use Rattle.cadence_aggregating.specs.Past.{Summarizes}
 use Rattle.cadence_aggregating.specs.Recorded.{lines_accepted, samples_held, lines_taken}
 use Rattle.cadence_aggregating.specs.Runs.{accepted_line, accepted_lines}
 use Rattle.cadence_aggregating.specs.declared.limits.Limits.{Limits}
 use Rattle.cadence_aggregating.specs.declared.runs.Step.{Step}
-use Rattle.cadence_aggregating.specs.declared.runs.Step.TheVariants.{Add}
+use Rattle.cadence_aggregating.specs.declared.runs.Step.TheVariants.{Add, Flush}
 use Rattle.cadence_aggregating.proofs.RunSteps.{Reply, accepted_more}
 use Rattle.cadence_aggregating.proofs.runs.run.Goals as goal
 
@@ -25,6 +26,9 @@ loop-step-preserved g c =
       accepted = rw (take_more steps i d lt, c.in_ok-push.ensures.items)
           (c.take_step-reply.ensures.accepted ∙ ap (λ t. t ++ accepted_line (get_or steps i d) reply) c.loop-step.invariant.accepted
           ∙ sym (accepted_more (take i steps) past (get_or steps i d) reply (omega (arith, c.loop-step.invariant.replies, n))));
+      flushed = rw c.in_ok-push.ensures.items
+          (flushed_last (samples_held c.take_step-reply.new.aggregator ≡ []) Flush steps past d reply i (i + 1 - 1) (omega arith) lt
+          c.loop-step.invariant.replies c.take_step-reply.ensures.flushed);
       limits = c.take_step-reply.ensures.limits ∙ c.loop-step.invariant.limits;
     }
 

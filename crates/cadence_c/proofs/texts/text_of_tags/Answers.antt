@@ -14,7 +14,7 @@ loop-tag-preserved c =
     let tags = c.args.tags.now in
     let i = c.loop-tag.tag-index in
     let cleaned = c.args.is_cleaned in
-    c.in_ok-add_as.ensures.ok
+    c.in_ok-add.ensures.ok
     ∙ ap₂ (λ t (g : Tag). tags_text_with t (tag_as cleaned g)) c.loop-tag.invariant c.known_tag.ensures
     ∙ added_tag (map (c_tag_as cleaned) (take i tags)) _ ∙ ap tags_field (tags_more (c_tag_as cleaned) tags i _ c.loop-tag-test.true)
 

@@ -5,7 +5,7 @@ use Rattle.cadence_text.proofs.writing.DraftText.{line_of_draft_with}
 use Rattle.cadence_text.specs.Cleaned.{text_as}
 use Rattle.cadence_text.specs.Draft.{Draft, draft_line}
 use Rattle.cadence_text.specs.Metric.{Metric}
-use Rattle.cadence_host.specs.Calls.{with_options}
+use Rattle.cadence_host.specs.Calls.{with_c_cardinality, with_options}
 use Rattle.cadence_host.proofs.line.finish_line.Goals as goal
 
 pub returns : goal.returns
@@ -17,6 +17,7 @@ returns c =
     λ d. record d {
       rate = option_or rate d.rate;
       container = cond o.contained (Some (text_as c.args.is_cleaned o.container.now)) d.container;
+      enrichment = with_c_cardinality d.enrichment o.cardinality;
       time = cond
           o.timed (Some o.time) d.time;
     } in

@@ -27,6 +27,6 @@ loop-metric-preserved g c =
     ∙ ap (λ o. take k metrics ++ o ∷ []) (sym c.metric-item.is) in
     let all : map metric_of_owned (take k metrics) ++ metric_of_owned one ∷ [] ≡ map metric_of_owned (take (k + 1) metrics) =
     sym (ap (map metric_of_owned) next ∙ map-append metric_of_owned (take k metrics) (one ∷ [])) in
-    pushed ∙ ap (λ l. string_bytes c.loop-metric.text ++ text_line (codes "line") l) c.in_ok-line.ensures
+    pushed ∙ ap (λ l. string_bytes c.loop-metric.text ++ text_line (codes "line") l) c.in_ok-line.ensures.line
     ∙ ap (λ t. t ++ text_line (codes "line") (line_of (metric_of_owned one))) c.loop-metric.invariant
     ∙ sym (listing_more (map metric_of_owned (take k metrics)) (metric_of_owned one)) ∙ ap listing_of all

@@ -26,8 +26,8 @@ returns-in_err-metrics-clause-refused g c e =
       outcome,
       run,
       none,
-      λ new free. none (kept_metrics given outcome) (kept_listed c.args.settings.now c.args.capacity c.args.queue c.args.steps.now
-          c.args.log outcome new run free),
+      λ new free bare. none (kept_metrics given outcome) (kept_listed c.args.settings.now c.args.capacity c.args.queue c.args.steps.now
+          c.args.log outcome new run free bare),
     )
 
 pub returns-clause-read : goal.returns-clause-read
@@ -39,7 +39,7 @@ returns-clause-read g c =
     subst (λ ts. AreListed ts (metrics_of c.in_ok-metrics.metrics)) texts c.in_ok-metrics.ensures.found
 
 pub returns-clause-kept : goal.returns-clause-kept
-returns-clause-kept g c new free =
+returns-clause-kept g c new free bare =
     let outcome = outcome_of c.in-Ok.report in
     let given = given_to c.args.settings.now c.args.capacity c.args.queue c.args.steps.now c.args.log in
     let items = λ (packet : Vec ℕ g.row.A.Denot). packet.items in
@@ -47,5 +47,5 @@ returns-clause-kept g c new free =
     ap₂ (λ ps h. ps ++ h ∷ []) (c.packets.ensures
     ∙ ap (λ (l : LogState). l.packets) c.writer.ensures) c.held.ensures in
     let run : IsRun given (outcome_of c.in-Ok.report) = record { headline = c.in-Ok.ensures.headline.0; beside = c.in-Ok.ensures.headline.1 } in
-    let kept = kept_listed c.args.settings.now c.args.capacity c.args.queue c.args.steps.now c.args.log outcome new run free in
+    let kept = kept_listed c.args.settings.now c.args.capacity c.args.queue c.args.steps.now c.args.log outcome new run free bare in
     sym (c.in_ok-metrics.ensures.only (kept_metrics given outcome) (subst (λ ts. AreListed ts (kept_metrics given outcome)) (sym texts) kept))

@@ -18,7 +18,7 @@ returns-then-is_plain g c =
     let texts = line_texts c.in-Some.texts in
     let parts = c.in-Some.ensures.texts.1 in
     reads_through IsListed field_texts texts line_of line metric_of_owned c.read_texts.result
-    (λ m good e. line_from_texts m line texts parts e)
+    (λ m good e. line_from_texts m line texts good parts e)
     (λ m good e. texts_from_line m line texts good c.in-Some.ensures.texts.0 parts e)
     (subst (λ t. ReadsOrFails IsListed field_texts t metric_of_owned c.read_texts.result) (c.plain_texts.ensures.texts
     ∙ sym (c.is_plain.ensures c.if-is_plain.true)) c.read_texts.ensures)
@@ -29,6 +29,6 @@ returns g c =
     let texts = line_texts c.in-Some.texts in
     let parts = c.in-Some.ensures.texts.1 in
     reads_through IsListed field_texts texts line_of line metric_of_owned c.read_texts-2.result
-    (λ m good e. line_from_texts m line texts parts e)
+    (λ m good e. line_from_texts m line texts good parts e)
     (λ m good e. texts_from_line m line texts good c.in-Some.ensures.texts.0 parts e)
     c.read_texts-2.ensures

@@ -1,4 +1,4 @@
-use Rattle.std.proofs.Common.{rules, ◌≡◌, ap, Err}
+use Rattle.std.proofs.Common.{rules, ◌≡◌, ap, refl, Err}
 use Rattle.std.specs.Prelude.{IfSome}
 use Rattle.cadence_text.specs.Owned.{metric_of_owned}
 use Rattle.cadence_read.specs.LineTexts.{LineTexts, line_texts, field_texts}
@@ -18,4 +18,4 @@ returns-in_err-container g c =
 
 pub returns : goal.returns
 returns g c =
-    (listed _ (search rules) (search rules) (search rules) (search rules) (search rules) (search rules), search rules)
+    (listed _ (search rules) (search rules) (search rules) (search rules) (search rules) (search rules) refl, search rules)

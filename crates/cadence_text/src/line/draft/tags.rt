@@ -77,17 +77,9 @@ impl<A: Allocator> TagsText<A> {
         }
     }
 
-    /// Adds a tag at the end. After an error, which says that memory ran out, the text is unchanged.
-    pub fn add(&mut self, tag: Tag<'_>) -> Result<(), AllocError>
-        ensures ok { OnOk result (self.new ≡ tags_text_with self.old (tag_of tag.entry)) }
-        ensures err { OnErr result (self.new ≡ self.old) }
-    {
-        let begun = self.line.len() > 0;
-        add_to(&mut self.line, begun, &tag, false)
-    }
-
-    /// Adds a tag at the end, with cleaned texts (`cleaned`) if `is_cleaned` is set. The error is that of `add`.
-    pub fn add_as(&mut self, tag: Tag<'_>, is_cleaned: bool) -> Result<(), AllocError>
+    /// Adds a tag at the end, with cleaned texts (`cleaned`) if `is_cleaned` is set. After an error, which says that
+    /// memory ran out, the text is unchanged.
+    pub fn add(&mut self, tag: Tag<'_>, is_cleaned: bool) -> Result<(), AllocError>
         ensures ok { OnOk result (self.new ≡
             tags_text_with self.old (tag_as is_cleaned (tag_of tag.entry))) }
         ensures err { OnErr result (self.new ≡ self.old) }

@@ -1,16 +1,16 @@
 //! A metric that owns its texts.
 ghost use Rattle.std.specs.Prelude.{◌≡◌, IfOk, map};
 
-use crate::line::{DraftLine, Head, MetricType, OwnedTag, Record, lend_tag, lend_tags};
+use crate::line::enrichment::Enrichment;
+use crate::line::options::Rate;
+use crate::line::{Head, MetricType, OwnedTag, Record, lend_tags};
 use cadence_errors::MetricResult;
 use cadence_value::decimal::Decimal;
 use cadence_value::value::MetricValue;
 use std::alloc::{AllocError, Allocator, Global};
 
-// The bytes that a draft reserves for tags and other options.
-const OPTIONS: usize = 96;
-
-/// A metric that owns its texts, for example one that was read from a line.
+/// A metric that owns its texts, for example one that was read from a line. It has neither external data nor a
+/// cardinality.
 #[derive(Drop)]
 #[derive_where(Debug, PartialEq, Eq)]
 pub struct OwnedMetric<A: Allocator = Global> {
@@ -32,16 +32,15 @@ pub struct OwnedMetric<A: Allocator = Global> {
 }
 
 impl<A: Allocator + Clone> OwnedMetric<A> {
-    ghost use Rattle.std.specs.Prelude.{◌≡◌, [], IfOk, string_bytes};
-    ghost use Rattle.cadence_errors.specs.Errors.{Makes};
-    ghost use Rattle.cadence_text.specs.Draft.{draft_of};
+    ghost use Rattle.std.specs.Prelude.{◌≡◌, IfOk, string_bytes};
+    ghost use Rattle.cadence_errors.specs.Errors.{Makes, MayOnlyRunOutOfMemory};
     ghost use Rattle.cadence_text.specs.Line.{line_of};
     ghost use Rattle.cadence_text.specs.Owned.{metric_of_owned};
 
     /// Returns the metric as a record whose prefix is empty. The record borrows the texts and has a copy of the
     /// numbers. The copy and the list of tags are allocated from the allocator of the metric's tags.
     ///
-    /// Returns `SinkError::OutOfMemory` if memory runs out, and no other error.
+    /// The only error is `SinkError::OutOfMemory`.
     pub fn to_record(&self) -> MetricResult<Record<'_, A>>
         ensures { Makes (metric_of_owned self.now) result }
     {
@@ -55,53 +54,27 @@ impl<A: Allocator + Clone> OwnedMetric<A> {
                 value: MetricValue::PackedDecimal(numbers),
                 kind: self.kind,
             },
-            rate: self.rate,
+            rate: self.rate.map(Rate::of),
             tags,
             container: self.container.as_ref().map(|id| id.as_str()),
+            enrichment: Enrichment {
+                external: None,
+                cardinality: None,
+            },
             time: self.time,
         })
     }
 
-    // Returns the draft of the metric without its tags.
-    fn untagged(&self) -> Result<DraftLine<'_, A>, AllocError>
-        ensures { IfOk result (λ draft.
-            draft ≡ draft_of (record (metric_of_owned self.now) { tags = [] })) }
+    /// Returns the line of the metric. The line, a copy of the numbers and a list of the tags are allocated from the
+    /// allocator of the metric's tags.
+    ///
+    /// The only error is `SinkError::OutOfMemory`.
+    pub fn line(&self) -> MetricResult<String<A>>
+        ensures line { IfOk result (λ line.
+            string_bytes line ≡ line_of (metric_of_owned self.now)) }
+        ensures refused { MayOnlyRunOutOfMemory result }
     {
-        let alloc = self.tags.allocator();
-        let numbers = Vec::from_slice(alloc.clone()?, &self.numbers)?;
-        let head = Head {
-            prefix: "",
-            key: &self.name,
-            value: MetricValue::PackedDecimal(numbers),
-            kind: self.kind,
-        };
-        let container = self.container.as_ref().map(|id| id.as_str());
-        let mut draft = DraftLine::new(alloc.clone()?, &head, "", container, OPTIONS)?;
-        if let Some(rate) = self.rate {
-            draft.set_rate(rate);
-        }
-        if let Some(time) = self.time {
-            draft.set_time(time);
-        }
-        Ok(draft)
-    }
-
-    // Returns the draft of the metric.
-    fn draft(&self) -> Result<DraftLine<'_, A>, AllocError>
-        ensures { IfOk result (λ draft. draft ≡ draft_of (metric_of_owned self.now)) }
-    {
-        let mut draft = self.untagged()?;
-        for tag in &self.tags {
-            draft.add_tag(lend_tag(tag))?;
-        }
-        Ok(draft)
-    }
-
-    /// Returns the line of the metric, made in the same way as a client makes it. The line and a copy of the numbers
-    /// are allocated from the allocator of the metric's tags. Returns `AllocError` if memory runs out.
-    pub fn line(&self) -> Result<String<A>, AllocError>
-        ensures { IfOk result (λ line. string_bytes line ≡ line_of (metric_of_owned self.now)) }
-    {
-        self.draft()?.into_text()
+        let record = self.to_record()?;
+        record.format(self.tags.allocator().clone()?)
     }
 }

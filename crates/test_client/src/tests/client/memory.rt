@@ -2,6 +2,7 @@
 
 use super::sending::{CountingSink, make_counter};
 use crate::tests::steps::is_made;
+use cadence::Cardinality;
 use cadence::client::StatsdClient;
 use cadence::decimal::Decimal;
 use cadence::prelude::*;
@@ -16,12 +17,14 @@ use test_tools::{RefusingAllocator, each_refused};
 // The client of these tests, whose sink takes every line and counts its calls.
 type Client = StatsdClient<RefusingAllocator<Global>, CountingSink>;
 
-// Makes a client with default tags and a container. That takes eight requests for memory.
+// Makes a client with default tags, a container, external data and a cardinality. That takes nine requests for memory.
 fn make_client(heap: &RefusingAllocator<Global>, calls: Arc<AtomicU64>) -> MetricResult<Client> {
     StatsdClient::builder(heap.clone()?, "p", CountingSink { calls })
         .with_tag("a", "b")
         .with_tag_value("c")
         .with_container_id("id")
+        .with_external_data("cn-a")
+        .with_cardinality(Cardinality::Low)
         .build()
 }
 
@@ -49,15 +52,23 @@ fn is_line<M: Metric + Drop>(
 // kinds.
 fn sends(client: &Client, number: u8) -> Result<bool, Fail> {
     match number {
-        0 => is_line(client, client.count("k", 3i64), "p.k:3|c|#a:b,c|c:id"),
+        0 => is_line(
+            client,
+            client.count("k", 3i64),
+            "p.k:3|c|#a:b,c|c:id|e:cn-a|card:low",
+        ),
         1 => {
             let call = client.gauge_with_tags("k", 8u64).with_tag("d", "e");
-            is_line(client, call.try_send(), "p.k:8|g|#a:b,c,d:e|c:id")
+            is_line(
+                client,
+                call.try_send(),
+                "p.k:8|g|#a:b,c,d:e|c:id|e:cn-a|card:low",
+            )
         }
         _ => is_line(
             client,
             client.set_text("k", "alice"),
-            "p.k:alice|s|#a:b,c|c:id",
+            "p.k:alice|s|#a:b,c|c:id|e:cn-a|card:low",
         ),
     }
 }
@@ -73,7 +84,7 @@ fn sends_long_line(client: &Client, tag: &str) -> Result<bool, Fail> {
             .with_tag_value(tag)
             .with_timestamp(7)
             .try_send(),
-        "p.k:1|c|@0.5|#a:b,c,d:ffffffffffffffffffffffffffffffffffffffffffffffffffffffffffff,ffffffffffffffffffffffffffffffffffffffffffffffffffffffffffff|c:id|T7",
+        "p.k:1|c|@0.5|#a:b,c,d:ffffffffffffffffffffffffffffffffffffffffffffffffffffffffffff,ffffffffffffffffffffffffffffffffffffffffffffffffffffffffffff|c:id|e:cn-a|card:low|T7",
     )
 }
 
@@ -91,12 +102,12 @@ fn makes_client_and_sends(
     }
 }
 
-// The client takes eight requests, the line one, and its growth another one.
+// The client takes nine requests, the line one, and its growth another one.
 #[test]
 fn a_call_is_sent_or_refused(rt: HostRuntime) -> Result<(), Fail> {
     let alloc = rt.alloc();
     let tag = "f".repeat(alloc, 60)?;
-    for (number, requests) in [(0, 9), (1, 9), (2, 9), (3, 10)] {
+    for (number, requests) in [(0, 10), (1, 10), (2, 10), (3, 11)] {
         let granted = each_refused(alloc, |heap| {
             makes_client_and_sends(alloc, &heap, number, &tag)
         })?;

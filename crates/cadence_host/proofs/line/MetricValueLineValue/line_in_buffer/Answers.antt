@@ -1,7 +1,9 @@
-use Rattle.std.proofs.Common.{[], ◌∙◌}
+use Rattle.std.proofs.Common.{[], ◌∙◌, ap₂}
 use Rattle.std.proofs.lemmas.Result.{IfOk-weaker}
 use Rattle.cadence_settings.specs.Call.{metric_of_call, plain_call}
 use Rattle.cadence_settings.proofs.calls.CallOptions.{draft_of_value}
+use Rattle.cadence_text.specs.Draft.{Draft}
+use Rattle.cadence_text.specs.Metric.{Enrichment}
 use Rattle.cadence_value.specs.Number.{numbers_text}
 use Rattle.cadence_value.specs.Values.{numbers_of}
 use Rattle.cadence_host.proofs.line.MetricValueLineValue.line_in_buffer.Goals as goal
@@ -11,4 +13,6 @@ returns c =
     let call = c.args.call.now in
     let value = numbers_text (numbers_of c.args.self) in
     IfOk-weaker c.finish_line.result _ _ (λ line shows s has. shows (metric_of_call s (plain_call call.kind c.args.key.now [])) value
-    (c.in-Ok.ensures.draft ∙ draft_of_value s call.kind _ c.args.key.now value _ _ [] has.prefix has.tags has.container)) c.finish_line.ensures
+    (c.set_enrichment.ensures
+    ∙ ap₂ (λ (d : Draft) (e : Enrichment). record d { enrichment = e }) c.in-Ok.ensures.draft (λ i. record { external = has.external i; cardinality = has.cardinality i })
+    ∙ draft_of_value s call.kind _ c.args.key.now value _ _ [] has.prefix has.tags has.container)) c.finish_line.ensures

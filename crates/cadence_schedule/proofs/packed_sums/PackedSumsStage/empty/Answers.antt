@@ -20,4 +20,4 @@ returns-clause-step g c =
     let s = c.flush.new in
     flushed_both g.P.PacketWriter.kind g.P.PacketWriter.history old
     (record old { lines = s.self; sink = record s.sink { packing = c.empty.new.self } })
-    s.sink (ok_or c.empty.result c.empty.new.fault) refl c.in_ok-flush.ensures.leads c.in_ok-flush.ensures.same c.empty.ensures.step
+    s.sink (ok_or c.empty.result c.empty.new.fault) refl c.in_ok-flush.ensures.leads c.in_ok-flush.ensures.same c.in_ok-flush.ensures.ok c.empty.ensures.step

@@ -40,6 +40,7 @@ invariant_of-self-2 g c =
     ) in
     record {
       text = text;
+      external = c.self.invariant.external;
       clear = λ either. subst (λ (l : List Tag). IsTrue (is_clear_settings (record (settings_seen inside) { tags = l }))) (sym items)
           (clear_with_tag (settings_seen inside) given (c.self.invariant.clear either)
           (kept_clear c.cleaned_texts_are_clear.ensures (settings_seen inside) asked either

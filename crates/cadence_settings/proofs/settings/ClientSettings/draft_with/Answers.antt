@@ -1,10 +1,12 @@
-use Rattle.std.proofs.Common.{◌≡◌, ◌++◌, List, rules, string_bytes, subst}
+use Rattle.std.proofs.Common.{◌≡◌, ◌∙◌, ◌++◌, List, ap, ap₂, rules, string_bytes, subst, sym}
 use Rattle.std.specs.Option.{option_copied, option_map}
-use Rattle.std.specs.Prelude.{Err, IfOk, IsUtf8, Ok, OnOk, Result, map}
+use Rattle.std.specs.Prelude.{IsUtf8, map}
 use Rattle.cadence_value.specs.Values.{numbers_of}
 use Rattle.cadence_text.specs.Draft.{Draft, draft_of}
 use Rattle.cadence_text.specs.Line.{tags_field}
+use Rattle.cadence_text.specs.Metric.{Enrichment}
 use Rattle.cadence_text.specs.Owned.{tag_of_owned}
+use Rattle.cadence_text.specs.Record.{enrichment_of}
 use Rattle.cadence_text.specs.Representable.{IsRepresentable}
 use Rattle.cadence_settings.specs.Call.{metric_of_call, plain_call}
 use Rattle.cadence_settings.specs.Settings.{Settings}
@@ -17,13 +19,16 @@ returns-clause-draft g c =
     let inside = c.self.inside in
     let call = plain_call c.args.kind c.args.key.now (numbers_of c.args.value) in
     let prefix : c.deref.result.now ≡ string_bytes inside.prefix = search rules in
-    let tags : c.as_str.result.now ≡ tags_field (map tag_of_owned inside.tags.items) = search rules in
+    let tags : c.as_str-tags.result.now ≡ tags_field (map tag_of_owned inside.tags.items) = search rules in
     let container : option_copied c.default_container.result ≡ option_map string_bytes inside.container = search rules in
+    let enrichment : enrichment_of c.enrichment.result ≡ (settings_seen inside).enrichment = c.enrichment.ensures
+    ∙ ap (λ (s : Settings). s.enrichment) (sym c.self.view_is) in
     let same =
-    draft_of_call (settings_seen inside) c.args.kind c.deref.result.now c.args.key.now c.as_str.result.now (option_copied c.default_container.result)
-    (numbers_of c.args.value) prefix tags container in
-    subst (λ (s : Settings). IfOk c.new.result (λ draft. draft ≡ draft_of (metric_of_call s call))) c.self.view_is
-    (subst (λ (d : Draft). IfOk c.new.result (λ draft. draft ≡ d)) same c.new.ensures.draft)
+    draft_of_call (settings_seen inside) c.args.kind c.deref.result.now c.args.key.now c.as_str-tags.result.now
+    (option_copied c.default_container.result) (numbers_of c.args.value) prefix tags container in
+    let made = c.set_enrichment.ensures
+    ∙ ap₂ (λ (d : Draft) (e : Enrichment). record d { enrichment = e }) c.in_ok-draft.ensures.draft enrichment in
+    subst (λ (s : Settings). c.set_enrichment.new.self ≡ draft_of (metric_of_call s call)) c.self.view_is (made ∙ same)
 
 pub returns-clause-representable : goal.returns-clause-representable
 returns-clause-representable g c =
@@ -31,10 +36,6 @@ returns-clause-representable g c =
     let numbers = numbers_of c.args.value in
     let call = plain_call c.args.kind c.args.key.now numbers in
     let prefix : c.deref.result.now ≡ string_bytes inside.prefix = search rules in
-    made c.new.result c.new.ensures.representable (λ head.
+    let head = c.in_ok-draft.ensures.representable in
     subst (λ (s : Settings). IsRepresentable (metric_of_call s call)) c.self.view_is
-    (said_plain inside c.args.kind c.args.key.now numbers (subst (λ (p : List _). IsUtf8 (p ++ c.args.key.now)) prefix head.name) head.numbers))
-  where
-    made : {D E P Q : Type 0} (r : Result D E) → OnOk r P → (P → Q) → OnOk r Q
-    made (Ok d) p f = f p
-    made (Err e) p f = tt
+    (said_plain inside c.args.kind c.args.key.now numbers (subst (λ (p : List _). IsUtf8 (p ++ c.args.key.now)) prefix head.name) head.numbers)

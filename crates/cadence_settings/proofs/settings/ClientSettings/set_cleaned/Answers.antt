@@ -21,12 +21,14 @@ invariant_of-self g c =
       prefix = string_bytes c.in_ok-prefix.prefix;
       tags = map tag_of_owned c.in_ok-tags.tags.items;
       container = option_map string_bytes c.in_ok-container.container;
+      enrichment = s.enrichment;
       strict = false;
       cleaned = true;
-    } = λ i. record { prefix = sym prefix i; tags = sym tags i; container = sym container i; strict = false; cleaned = true } in
+    } = λ i. record { prefix = sym prefix i; tags = sym tags i; container = sym container i; enrichment = s.enrichment; strict = false; cleaned = true } in
     record {
       text = c.in_ok-tags.ensures.text;
-      clear = λ either. subst (λ (t : Settings). IsTrue (is_clear_settings t)) made (cleaned_settings_clear c.cleaned_texts_are_clear.ensures s);
+      external = c.self.invariant.external;
+      clear = λ either. subst (λ (t : Settings). IsTrue (is_clear_settings t)) made (cleaned_settings_clear c.cleaned_texts_are_clear.ensures s c.self.invariant.external);
     }
 
 pub returns-clause-ok : goal.returns-clause-ok
@@ -38,4 +40,4 @@ returns-clause-ok g c =
     c.in_ok-tags.ensures.tags ∙ ap (λ (ts : List _). map cleaned_tag (map tag_of_owned ts)) c.deref-2.ensures.value in
     let container : option_map string_bytes c.in_ok-container.container ≡ container_as true s.container =
     c.in_ok-container.ensures ∙ ap (container_as true) (c.default_container.ensures ∙ ap (λ (t : Settings). t.container) (sym c.self.view_is)) in
-    (λ i. record { prefix = prefix i; tags = tags i; container = container i; strict = false; cleaned = true }) ∙ ap with_cleaned_texts c.self.view_is
+    (λ i. record { prefix = prefix i; tags = tags i; container = container i; enrichment = s.enrichment; strict = false; cleaned = true }) ∙ ap with_cleaned_texts c.self.view_is

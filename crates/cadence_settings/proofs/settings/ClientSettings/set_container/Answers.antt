@@ -17,6 +17,7 @@ invariant_of-self g c =
     ∙ c.if-not-allows_text.false in
     record {
       text = c.self.invariant.text;
+      external = c.self.invariant.external;
       clear = λ either. subst (λ (t : List _). IsTrue (is_clear_settings (record s { container = Some t }))) (sym kept)
           (clear_with_container s (text_as inside.cleaned asked) (c.self.invariant.clear either)
           (kept_free c.cleaned_texts_are_clear.ensures s asked either (subst (λ (s : Settings). IsTrue (allows_text s asked)) (sym c.self.view_is) allowed)));

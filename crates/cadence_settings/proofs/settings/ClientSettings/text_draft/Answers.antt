@@ -1,10 +1,12 @@
-use Rattle.std.proofs.Common.{◌≡◌, ◌∙◌, [], List, ap, rules, string_bytes, subst}
+use Rattle.std.proofs.Common.{◌≡◌, ◌∙◌, [], List, ap, ap₂, rules, string_bytes, subst, sym}
 use Rattle.std.specs.Option.{option_copied, option_map}
 use Rattle.std.specs.Prelude.{map}
 use Rattle.cadence_text.specs.Cleaned.{text_as}
-use Rattle.cadence_text.specs.Draft.{draft_with}
+use Rattle.cadence_text.specs.Draft.{Draft, draft_with}
 use Rattle.cadence_text.specs.Line.{tags_field}
+use Rattle.cadence_text.specs.Metric.{Enrichment}
 use Rattle.cadence_text.specs.Owned.{tag_of_owned}
+use Rattle.cadence_text.specs.Record.{enrichment_of}
 use Rattle.cadence_text.specs.TextValue.{value_kind, value_text}
 use Rattle.cadence_settings.specs.Call.{metric_of_call, plain_call}
 use Rattle.cadence_settings.specs.Settings.{Settings}
@@ -21,9 +23,13 @@ returns-clause-draft g c =
     let tags : c.as_str-tags.result.now ≡ tags_field (map tag_of_owned inside.tags.items) = search rules in
     let container : option_copied c.default_container-container.result ≡ option_map string_bytes inside.container = search rules in
     let key : c.as_str.result.now ≡ text_as s.cleaned c.args.key.now = search rules in
+    let enrichment : enrichment_of c.enrichment.result ≡ (settings_seen inside).enrichment = c.enrichment.ensures
+    ∙ ap (λ (s : Settings). s.enrichment) (sym c.self.view_is) in
     let same =
     draft_of_value (settings_seen inside) (value_kind value) c.deref.result.now c.as_str.result.now (value_text value) c.as_str-tags.result.now
     (option_copied c.default_container-container.result) [] prefix tags container in
-    subst (λ (s : Settings). c.in_ok-draft.draft ≡ draft_with (value_text value) (metric_of_call s (plain_call (value_kind value) c.as_str.result.now [])))
-    c.self.view_is (c.in_ok-draft.ensures ∙ same)
+    let made = c.set_enrichment.ensures
+    ∙ ap₂ (λ (d : Draft) (e : Enrichment). record d { enrichment = e }) c.in_ok-draft.ensures enrichment in
+    subst (λ (s : Settings). c.set_enrichment.new.self ≡ draft_with (value_text value) (metric_of_call s (plain_call (value_kind value) c.as_str.result.now [])))
+    c.self.view_is (made ∙ same)
     ∙ ap (λ (k : List _). draft_with (value_text value) (metric_of_call s (plain_call (value_kind value) k []))) key

@@ -4,6 +4,7 @@ use Rattle.std.specs.Prelude.{None}
 use Rattle.std.proofs.lemmas.Str.{IsUtf8-had}
 use Rattle.cadence_text.proofs.writing.DraftText.{cut_new, cut_first, cut_last}
 use Rattle.cadence_text.proofs.writing.WriterEnds.{filled_more}
+use Rattle.cadence_text.specs.Metric.{no_enrichment}
 use Rattle.cadence_text.proofs.line.draft.with_tags.Goals as goal
 
 pub invariant_of-result : goal.invariant_of-result
@@ -35,5 +36,6 @@ returns g c =
       tags = cut_last c.args.first head tags c.take_piece.new.self.bytes.items first whole i;
       rate = None;
       container = option_copied c.args.container;
+      enrichment = no_enrichment;
       time = None;
     }

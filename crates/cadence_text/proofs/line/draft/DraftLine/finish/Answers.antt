@@ -2,7 +2,8 @@ use Rattle.std.proofs.Common.{◌≡◌, ◌∙◌, ◌++◌, None, ap, append_a
 use Rattle.std.specs.Option.{option_copied}
 use Rattle.cadence_text.specs.Cleaned.{container_as}
 use Rattle.cadence_text.specs.Draft.{Draft, draft_line}
-use Rattle.cadence_text.specs.Line.{container_field, rate_field, time_field}
+use Rattle.cadence_text.specs.Line.{container_field, enrichment_fields, rate_field, time_field}
+use Rattle.cadence_text.specs.Record.{enrichment_of}
 use Rattle.cadence_text.proofs.line.draft.DraftLine.finish.Goals as goal
 use Rattle.cadence_text.proofs.line.draft.DraftLine.finish.Goals.{then-is_some+in_ok-insert_rate, else-is_some}
 
@@ -13,7 +14,8 @@ returns g c =
     let front = take inside.head items in
     let back = drop inside.head items in
     let rate = rate_field inside.rate in
-    let last = container_field (container_as inside.is_cleaned (option_copied inside.container)) ++ time_field inside.time in
+    let ending = enrichment_fields (enrichment_of inside.enrichment) ++ time_field inside.time in
+    let last = container_field (container_as inside.is_cleaned (option_copied inside.container)) ++ ending in
     let rated : c.if-is_some.line.bytes.items ≡ front ++ (rate ++ back) = elim c.if-is_some.branch [
       | then-is_some+in_ok-insert_rate w ↦ search rules
       | else-is_some w ↦ (let none : inside.rate ≡ None = search rules in

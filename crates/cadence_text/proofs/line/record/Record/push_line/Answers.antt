@@ -20,6 +20,7 @@ returns-clause-sized g c =
       rate = c.push_rate.ensures.sized;
       tags = subst (λ (ts : List Tag). AreTagsInMemory (map tag_of ts)) c.deref.ensures.value c.push_tags.ensures.sized;
       container = c.push_last.ensures.container;
+      external = c.push_last.ensures.external;
       time = c.push_last.ensures.time;
     } in
     subst (λ (m : Metric). IsMetricInMemory m) c.self.view_is whole
