@@ -80,8 +80,8 @@ fails : (Z : Type 0) (Has : List ℕ → Type 0) (why : Option Unfit) (line : Li
 fails Z Has why line (Unusable u) h none = λ x has. unmade Z why line u h (none x has)
 fails Z Has why line OutOfMemory h none = tt
 
--- A call that makes a line is a search for a text that has the property, if the line has it unless it is refused, and if no
--- text has it once the line is refused.
+-- Suppose that the line has the property if none of its texts is refused, and that no line has the property if one is. If a
+-- line was made, it has the property. If none was made although there was enough memory, then no line has it.
 module _ {Z : Type 0} (Has : List ℕ → Type 0) (why : Option Unfit) (line : List ℕ) where
   found : (r : Result (String Z) (InputError Unfit)) (s : Result (String Z) (InputError Part))
       → MatchResult r (λ text. s ≡ Ok text) (λ error. s ≡ Err (word_error_of error))
@@ -106,8 +106,8 @@ module _ {Z : Type 0} (d : Defaults Z) (f : Fields) (a b : List ℕ) (words : Li
 
   module _ (tags : List Tag) (each : AllZip IsTagWord words tags) (e : Event) (asked : e ≡ asked_event d.time f a b tags)
       (k : Bool) (cleans : k ≡ d.settings.cleaned) (line : List ℕ) where
-    -- A line that was made is that of the event that is asked for. If none was made, then no event that is asked for can
-    -- stand in a line, unless memory ran out.
+    -- If a line was made, it is that of the event that is asked for. If none was made although there was enough memory, then
+    -- no event that is asked for has a line.
     pub event_found : {Y : Type 0} (r : Result (String Y) (InputError Unfit)) (s : Result (String Y) (InputError Part))
         → MatchResult r (λ text. s ≡ Ok text) (λ error. s ≡ Err (word_error_of error)) → MakesLine (event_refusal (event_as k e)) line r
         → line ≡ event_line (event_with d.settings.tags d.settings.container (event_as k e))
@@ -146,8 +146,8 @@ module _ {Z : Type 0} (d : Defaults Z) (f : Fields) (a b : List ℕ) (words : Li
 
   module _ (s : ServiceStatus) (tags : List Tag) (each : AllZip IsTagWord words tags) (c : ServiceCheck)
       (asked : c ≡ asked_check d.time f a s tags) (k : Bool) (cleans : k ≡ d.settings.cleaned) (line : List ℕ) where
-    -- A line that was made is that of the service check that is asked for. If none was made, then no service check that is
-    -- asked for can stand in a line, unless memory ran out.
+    -- If a line was made, it is that of the service check that is asked for. If none was made although there was enough
+    -- memory, then no service check that is asked for has a line.
     pub check_found : {Y : Type 0} (r : Result (String Y) (InputError Unfit)) (l : Result (String Y) (InputError Part)) → IsWord a → NamesStatus b s
         → MatchResult r (λ text. l ≡ Ok text) (λ error. l ≡ Err (word_error_of error)) → MakesLine (check_refusal (check_as k c)) line r
         → line ≡ check_line (check_with d.settings.tags d.settings.container (check_as k c))
