@@ -12,7 +12,7 @@ use Rattle.std.specs.Prelude.{IfSome, IsUtf8, OnErr, OnOk, Result, Ok, Err}
 use Rattle.cadence_text.specs.DraftParts.{IsCutAt}
 use Rattle.cadence_text.specs.PieceWriters.{rotated_text}
 use Rattle.cadence_value.specs.Number.{numbers_text}
-use Rattle.cadence_text.specs.Draft.{Draft, draft_line, draft_of, draft_with, head_with, lead, tags_text_with, with_tag_text}
+use Rattle.cadence_text.specs.Draft.{Draft, draft_line, draft_of, draft_with, lead, tags_text_with, with_tag_text}
 use Rattle.cadence_text.specs.Line.{container_field, enrichment_fields, key_text, kind_text, line_of, line_with, rate_field, tag_text, tags_field, time_field}
 use Rattle.cadence_text.specs.Metric.{Metric, Tag, with_tag}
 use Rattle.cadence_text.specs.MetricInMemory.{IsTextInMemory, IsTagInMemory}
