@@ -6,7 +6,7 @@ use Rattle.std.proofs.lemmas.Bool.{and_from, and_parts}
 use Rattle.std.proofs.lemmas.List.Folds.{list_all-append}
 use Rattle.std.proofs.lemmas.List.Elements.{All-append, All-cons, All-nil}
 use Rattle.std.specs.Option.{option_map}
-use Rattle.cadence_text.specs.Cleaned.{CleanedTextsAreClear, cleaned_tag, cleaned_text, container_as, tag_as, text_as}
+use Rattle.cadence_text.specs.Cleaned.{CleanedTextsAreClear, cleaned_tag, container_as, tag_as, text_as}
 use Rattle.cadence_text.specs.Laws.{ClearTextsPass}
 use Rattle.cadence_text.specs.Metric.{Metric, Tag}
 use Rattle.cadence_text.specs.OneReading.{IsClear, IsClearTag, IsFreeText, IsNoSeparator}

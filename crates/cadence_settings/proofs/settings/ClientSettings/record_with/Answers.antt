@@ -1,7 +1,7 @@
 use Rattle.std.proofs.Common.{◌≡◌, ◌∙◌, ◌++◌, None, ap, map, rules, string_bytes, subst, sym}
 use Rattle.std.specs.Option.{option_copied, option_map}
 use Rattle.cadence_text.specs.Owned.{tag_of_owned}
-use Rattle.cadence_text.specs.Metric.{Enrichment, Metric}
+use Rattle.cadence_text.specs.Metric.{Metric}
 use Rattle.cadence_text.specs.Record.{enrichment_of, tag_of}
 use Rattle.cadence_value.specs.Values.{numbers_of}
 use Rattle.cadence_settings.specs.Call.{metric_of_call, plain_call}
