@@ -1,20 +1,19 @@
 -- The lines of clear metrics, as `cut_line` cuts them, and that a line is cut in one way only.
-use Rattle.std.proofs.Common.{◌≡◌, ◌≢◌, ℕ, List, [], ◌∷◌, ◌++◌, Option, Some, None, length, get_or, refl, sym, ap, ◌∙◌, subst, arith, codes}
-use Rattle.std.specs.Prelude.{All, ◌<◌}
-use Rattle.std.specs.List.{join_with_byte}
+use Rattle.std.proofs.Common.{◌≡◌, ◌≢◌, ℕ, List, [], ◌∷◌, ◌++◌, Option, Some, None, length, get_or, refl, sym, ap, ◌∙◌, subst, arith}
+use Rattle.std.specs.Prelude.{All}
 use Rattle.std.proofs.lemmas.List.{get_or_append_left}
-use Rattle.std.proofs.lemmas.List.Elements.{All-from_recursion, All-weaker, recursion_from_All}
+use Rattle.std.proofs.lemmas.List.Elements.{All-from_recursion, recursion_from_All}
 use Rattle.std.proofs.Math.Seq.{get_or-append_seam}
 use Rattle.cadence_text.proofs.grammar.LineText.{clear_lacks_bars, joined_texts-joined}
 use Rattle.cadence_text.specs.declared.line.enrichment.Cardinality.{Cardinality}
 use Rattle.cadence_text.specs.Line.{cardinality_field, container_field, external_field, kind_text, line_of, rate_field, tags_field, time_field}
 use Rattle.cadence_text.specs.Metric.{Metric, Tag}
 use Rattle.cadence_text.specs.OneReading.{IsClear, IsNoSeparator}
-use Rattle.cadence_value.proofs.lists.SplitTexts.{Begins, Lacks, cut_at, each_append}
-use Rattle.cadence_value.specs.Number.{Number, joined_texts, number_text, numbers_text}
+use Rattle.cadence_value.proofs.lists.SplitTexts.{Begins, Lacks, cut_at}
+use Rattle.cadence_value.specs.Number.{Number, number_text, numbers_text}
 use Rattle.cadence_read.proofs.Cuts.{head_lacks, head_of, headed, lacks, lacks_both}
 use Rattle.cadence_read.proofs.LineParts.{first_is, lacks_bar, plain_colon}
-use Rattle.cadence_read.specs.Cuts.{AreFields, IsCut, IsEvent, IsOther, IsServiceCheck, Parts, line_of_parts, own_parts}
+use Rattle.cadence_read.specs.Cuts.{AreFields, IsCut, IsOther, Parts, own_parts}
 
 begins : (fields : List ℕ) → AreFields fields → Begins 124 fields
 begins [] h = tt
